@@ -32,7 +32,13 @@ def misfit(edit, crate):
                 return f"an 'old:' text is {text.count(old)} times in {path.relative_to(TOP)}"
             texts[path] = text.replace(old, line[len("new:"):].removeprefix(" "))
             old, pairs = None, pairs + 1
-    return None if pairs else "it has no 'old:' and 'new:' pair"
+        elif line.strip():
+            return f"no line begins as {line.strip()!r} does"
+    if not pairs:
+        return "it has no 'old:' and 'new:' pair"
+    if all(text == path.read_text() for path, text in texts.items()):
+        return "it changes nothing"
+    return None
 
 
 def challenges():

@@ -1,6 +1,6 @@
 -- What becomes of operators at a desk: each line is answered to the operator who sent it, a reading is asked for by its word
 -- alone and told to all who asked for it, and `stop` alone ends the program (own).
-use Rattle.std.specs.Prelude.{◌≡◌, ◌-◌, ◌<◌, ℕ, zero, suc, Bool, true, false, is_some, if◌then◌else◌, nat_le, List, Option, None, Some, get_or, replicate, set}
+use Rattle.std.specs.Prelude.{◌≡◌, ◌≢◌, ◌-◌, ◌<◌, ℕ, zero, suc, Bool, true, false, is_some, if◌then◌else◌, nat_le, List, Option, None, Some, codes, get_or, replicate, set}
 use Rattle.control_lines.specs.declared.talk.Wish.{Wish}
 use Rattle.control_lines.specs.declared.talk.Wish.TheVariants.{Nothing, Answer, More}
 use Rattle.cache_watch.specs.declared.reread.Reread.{Reread as Led}
@@ -116,6 +116,7 @@ pub record Visits {P : Type 0} (Turns : ℕ → P → P → Type 0) (wish : P �
   pub turns : Turns now old.operators new.operators
   pub same : new ≡ record old { operators = new.operators }
   pub nobody : waits ≡ false → NobodyWaits wish new.operators 16
+  pub somebody : waits ≡ true → (key : ℕ) × (key < 16) × (wish new.operators key ≢ Nothing)
 
 -- so many seconds behind `stop` the program ends; it may before where operators move nothing, and never where `stop` wasn't
 -- said
@@ -128,3 +129,12 @@ abbrev pub AtDesk : {X : Type 0} → (X → X → Type 0) → Option X → Optio
 AtDesk Becomes None new = new ≡ None
 AtDesk Becomes (Some old) None = ⊥
 AtDesk Becomes (Some old) (Some new) = Becomes old new
+
+-- when `stop` was said at it, if it was
+abbrev pub stopped_at : {P : Type 0} → Option (DeskState P) → Option ℕ
+stopped_at None = None
+stopped_at (Some state) = state.stopped
+
+-- an operator whose line is `stop` waits for the answer
+abbrev pub IsToldToStop : {P : Type 0} → (P → ℕ → Wish) → (P → ℕ → List ℕ) → Type 0
+IsToldToStop {P} wish line = (operators : P) × (key : ℕ) × (wish operators key ≡ Answer) × IsTextOf (line operators key) (codes "stop")

@@ -1,5 +1,6 @@
 //! Where operators ask.
-ghost use Rattle.std.specs.Prelude.{◌≡◌, IfOk, None, false, true};
+ghost use Rattle.std.specs.Prelude.{◌≡◌, IfOk, None, Some, false};
+ghost use Rattle.cache_desk.specs.Desks.{AtDesk, Attends, StopsAt, TellsIf, Visits, nothing_asked, stopped_at};
 
 use crate::clerk::Clerk;
 use crate::reading::Reading;
@@ -16,26 +17,28 @@ pub struct Desk<P> {
     clerk: Option<Clerk<P>>,
 }
 
-/// Whether operators ask at it.
+/// What there is of operators; nothing at a desk at which nobody asks.
 impl<P> Model for Desk<P> {
-    ghost use Rattle.std.specs.Prelude.{Bool, is_some};
+    ghost use Rattle.std.specs.Prelude.{Option, option_map};
+    ghost use Rattle.cache_desk.specs.Clerks.{state_of};
+    ghost use Rattle.cache_desk.specs.Desks.{DeskState};
 
-    ghost Value = { Bool };
+    ghost Value = { Option (DeskState P) };
 
-    ghost view = { λ desk. is_some desk.clerk };
+    ghost view = { λ desk. option_map state_of desk.clerk };
 }
 
 impl<P: Operators + Drop> Desk<P> {
     /// Nobody asks.
     pub fn closed() -> Desk<P>
-        ensures { result ≡ false }
+        ensures { result ≡ None }
     {
         Desk { clerk: None }
     }
 
     /// These operators ask, and haven't yet.
     pub fn open(alloc: Global, operators: P) -> Result<Desk<P>, AllocError>
-        ensures { IfOk result (λ desk. desk ≡ true) }
+        ensures { IfOk result (λ desk. desk ≡ Some (nothing_asked operators)) }
     {
         let clerk = Clerk::new(alloc, operators)?;
         Ok(Desk { clerk: Some(clerk) })
@@ -43,8 +46,8 @@ impl<P: Operators + Drop> Desk<P> {
 
     /// Lets in an operator who has come, and visits each. Answers whether one waits for something.
     pub fn visit(&mut self, now: u64) -> bool
-        ensures same { self.new ≡ self.old }
-        ensures nobody { self.old ≡ false → result ≡ false }
+        ensures visits { AtDesk (Visits P.turns P.wish now result) self.old self.new }
+        ensures nobody { self.old ≡ None → result ≡ false }
     {
         match &mut self.clerk {
             Some(clerk) => clerk.visit(now),
@@ -55,8 +58,8 @@ impl<P: Operators + Drop> Desk<P> {
     /// Answers each operator that waits for something by what is there to see, and answers which reading of the list one asks
     /// for, which is told what it leads to.
     pub fn attend<W: Wire + Drop>(&mut self, scene: &Scene<'_, W>) -> Option<Reading>
-        ensures same { self.new ≡ self.old }
-        ensures nobody { self.old ≡ false → result ≡ None }
+        ensures attends { AtDesk (Attends P.wish P.line P.hears scene.entry.now.now result) self.old self.new }
+        ensures nobody { self.old ≡ None → result ≡ None }
     {
         match &mut self.clerk {
             Some(clerk) => clerk.attend(scene),
@@ -66,7 +69,7 @@ impl<P: Operators + Drop> Desk<P> {
 
     /// What reading the list has led to, where it was read, and how many payloads are served behind it.
     pub fn tell(&mut self, led: Option<Reread>, payloads: usize)
-        ensures { self.new ≡ self.old }
+        ensures { AtDesk (TellsIf P.hears led) self.old self.new }
     {
         if let Some(led) = led
             && let Some(clerk) = &mut self.clerk
@@ -85,7 +88,7 @@ impl<P: Operators + Drop> Desk<P> {
 
     /// Whether an operator has stopped the program: none moves anything any more, or 5 seconds have passed.
     pub fn has_stopped(&self, now: u64) -> bool
-        ensures { self.now ≡ false → result ≡ false }
+        ensures { StopsAt (stopped_at self.now) now result }
     {
         match &self.clerk {
             Some(clerk) => clerk.has_stopped(now),

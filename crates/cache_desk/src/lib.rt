@@ -12,10 +12,12 @@
 
 mod clerk;
 mod desk;
+mod laws;
 mod line;
 mod reading;
 mod tables;
 
 pub use desk::Desk;
+pub use laws::desks_stop_by_the_word_stop;
 pub use reading::Reading;
 pub use tables::{ListState, Scene};

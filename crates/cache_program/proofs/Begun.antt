@@ -8,16 +8,17 @@ use Rattle.net_prefix.specs.declared.payload.Vrp.{Vrp}
 use Rattle.vrp_delta.specs.Versions.{Version}
 use Rattle.vrp_json.specs.declared.written.Written.{Written}
 use Rattle.wires.specs.Wires.{WireState, nothing_told}
-use Rattle.cache_desk.specs.declared.reading.Reading.{Reading}
 use Rattle.cache_settings.specs.declared.settings.CacheSettings.{CacheSettings}
 use Rattle.payload_sources.specs.PayloadSources.{SourceTexts}
 use Rattle.payload_sources.specs.declared.fault.SourceFile.{SourceFile}
 use Rattle.cache_program.proofs.Newest.{newest_set-kept_after}
 use Rattle.cache_program.proofs.ServedTurns.{served_are_steps}
+use Rattle.cache_program.proofs.SystemFiles.{ages_as}
 use Rattle.cache_program.specs.FirstList.{IsFirst}
+use Rattle.cache_program.specs.Opened.{AgesBy, SystemAges}
 use Rattle.log_lines.specs.Passing.{have_passed}
 use Rattle.cache_program.specs.Rereads.{IsNewest, RereadsWhenDue, Served, newest_set}
-use Rattle.cache_program.specs.ServedTurns.{IsBegun, IsServed, Moment, ServesAll, ServesOnce, ServesSoMany, count_accepted, is_read}
+use Rattle.cache_program.specs.ServedTurns.{AreOfAge, IsBegun, IsServed, Moment, ServesAll, ServesOnce, ServesSoMany, count_accepted, is_read}
 use Rattle.cache_watch.specs.declared.reread.Reread.{Reread}
 use Rattle.cache_watch.specs.declared.telling.FileAge.{FileAge}
 
@@ -32,25 +33,31 @@ first_is_newest Lists guards kept serial set written first = record {
 }
 
 -- it began, and then so many turns were taken
-pub is_served : (Lists : Result SourceTexts SourceFile → Type 0) (Wires : WireState → Type 0) (Seconds : ℕ → Type 0) (settings : CacheSettings) (may_ask : Bool) (count start : ℕ) (before mid behind : List ℕ) (begun served : Served)
-    → mid ≡ start ∷ before → may_ask ≡ is_some settings.control → IsBegun Lists Wires Seconds settings begun → ServesSoMany Lists settings.reread may_ask count mid behind begun served → IsServed Lists Wires Seconds settings count before behind served
-is_served Lists Wires Seconds settings may_ask count start before mid behind begun served read is begins takes = record {
+pub is_served : (Lists : Result SourceTexts SourceFile → Type 0) (Ages : FileAge → Type 0) (Wires : WireState → Type 0) (Seconds : ℕ → Type 0) (Attends : CacheSettings → ℕ → List Moment → Type 0) (settings : CacheSettings) (count start : ℕ) (before mid behind : List ℕ) (begun served : Served)
+    → mid ≡ start ∷ before → IsBegun Lists Ages Wires Seconds settings begun → ServesSoMany Lists Ages (Attends settings) settings.reread count mid behind begun served → IsServed Lists Ages Wires Seconds Attends settings count before behind served
+is_served Lists Ages Wires Seconds Attends settings count start before mid behind begun served read begins takes = record {
   begun = begun;
   start = start;
   begins = begins;
-  takes = subst (λ (may : Bool). ServesSoMany Lists settings.reread may count (start ∷ before) behind begun served) is (subst (λ (b : List ℕ). ServesSoMany Lists settings.reread may_ask count b behind begun served) read takes);
+  takes = subst (λ (b : List ℕ). ServesSoMany Lists Ages (Attends settings) settings.reread count b behind begun served) read takes;
 }
+
+-- operators may be said otherwise
+pub attended_as : (Lists : Result SourceTexts SourceFile → Type 0) (Ages : FileAge → Type 0) (Attends Attended : ℕ → List Moment → Type 0) (reread : Option ℕ) (count : ℕ) (before behind : List ℕ) (old new : Served) → ((moments : List Moment) → Attends count moments → Attended count moments)
+    → ServesSoMany Lists Ages Attends reread count before behind old new → ServesSoMany Lists Ages Attended reread count before behind old new
+attended_as Lists Ages Attends Attended reread count before behind old new so serves =
+    record { moments = serves.moments; serves = serves.serves; aged = serves.aged; attends = so serves.moments serves.attends; told = serves.told; forward = serves.forward; few = serves.few }
 
 -- the same, as others say what the system has answered
 due_as : (Lists Others : Result SourceTexts SourceFile → Type 0) → ((sources : Result SourceTexts SourceFile) → Lists sources → Others sources) → (accepts : Option ℕ) (is_due : Bool) (now : ℕ) (age : FileAge) (old : Served) (answer : Option Reread) (new : Served) → RereadsWhenDue Lists accepts is_due now age old answer new → RereadsWhenDue Others accepts is_due now age old answer new
 due_as Lists Others so accepts false now age old answer new none = none
 due_as Lists Others so accepts true now age old answer new rereads = (rereads.0, rereads.1, rereads.2, so rereads.2 rereads.3, rereads.4)
 
-once_as : (Lists Others : Result SourceTexts SourceFile → Type 0) → ((sources : Result SourceTexts SourceFile) → Lists sources → Others sources) → (asked : Option Reading) (is_due : Bool) (now : ℕ) (age : FileAge) (old new : Served) → ServesOnce Lists asked is_due now age old new → ServesOnce Others asked is_due now age old new
-once_as Lists Others so asked is_due now age old new once = record {
+once_as : (Lists Others : Result SourceTexts SourceFile → Type 0) → ((sources : Result SourceTexts SourceFile) → Lists sources → Others sources) → (is_due : Bool) (at : Moment) (old new : Served) → ServesOnce Lists is_due at old new → ServesOnce Others is_due at old new
+once_as Lists Others so is_due at old new once = record {
   between = once.between;
   left = once.left;
-  rereads = (once.rereads.0, due_as Lists Others so (count_accepted asked old) (is_read asked is_due) now age old once.rereads.0 once.between once.rereads.1);
+  rereads = due_as Lists Others so (count_accepted at.asked old) (is_read at.asked is_due) at.now at.age old at.led once.between once.rereads;
   withdraws = once.withdraws;
   takes = once.takes;
   same = once.same;
@@ -59,13 +66,18 @@ once_as Lists Others so asked is_due now age old new once = record {
 all_as : (Lists Others : Result SourceTexts SourceFile → Type 0) → ((sources : Result SourceTexts SourceFile) → Lists sources → Others sources) → (seconds : Option ℕ) (last : ℕ) (moments : List Moment) (old new : Served) → ServesAll Lists seconds last moments old new → ServesAll Others seconds last moments old new
 all_as Lists Others so seconds last [] old new same = same
 all_as Lists Others so seconds last (at ∷ moments) old new all =
-    (all.0, once_as Lists Others so at.asked (have_passed seconds last at.now) at.now at.age old all.0 all.1, all_as Lists Others so seconds (if have_passed seconds last at.now then at.now else last) moments all.0 new all.2)
+    (all.0, once_as Lists Others so (have_passed seconds last at.now) at old all.0 all.1, all_as Lists Others so seconds (if have_passed seconds last at.now then at.now else last) moments all.0 new all.2)
 
-pub served_as : (Lists Others : Result SourceTexts SourceFile → Type 0) (Wires Opened : WireState → Type 0) (Seconds Told : ℕ → Type 0) (settings : CacheSettings) (count : ℕ) (before behind : List ℕ) (served : Served)
-    → IsServed Lists Wires Seconds settings count before behind served
-    → ((sources : Result SourceTexts SourceFile) → Lists sources → Others sources) → ((wire : WireState) → Wires wire → Opened wire) → ((second : ℕ) → Seconds second → Told second)
-    → IsServed Others Opened Told settings count before behind served
-served_as Lists Others Wires Opened Seconds Told settings count before behind served is lists wires seconds =
+aged_as : (Ages Told : FileAge → Type 0) → ((age : FileAge) → Ages age → Told age) → (moments : List Moment) → AreOfAge Ages moments → AreOfAge Told moments
+aged_as Ages Told so [] aged = tt
+aged_as Ages Told so (at ∷ moments) aged = (so at.age aged.0, aged_as Ages Told so moments aged.1)
+
+pub served_as : (Lists Others : Result SourceTexts SourceFile → Type 0) (Ages Aged : FileAge → Type 0) (Wires Opened : WireState → Type 0) (Seconds Told : ℕ → Type 0) (Attends Attended : CacheSettings → ℕ → List Moment → Type 0) (settings : CacheSettings) (count : ℕ) (before behind : List ℕ) (served : Served)
+    → IsServed Lists Ages Wires Seconds Attends settings count before behind served
+    → ((sources : Result SourceTexts SourceFile) → Lists sources → Others sources) → ((age : FileAge) → Ages age → Aged age) → ((wire : WireState) → Wires wire → Opened wire) → ((second : ℕ) → Seconds second → Told second)
+    → ((moments : List Moment) → Attends settings count moments → Attended settings count moments)
+    → IsServed Others Aged Opened Told Attended settings count before behind served
+served_as Lists Others Ages Aged Wires Opened Seconds Told Attends Attended settings count before behind served is lists ages wires seconds attends =
     let begun = is.begins in
     record {
       begun = is.begun;
@@ -75,6 +87,7 @@ served_as Lists Others Wires Opened Seconds Told settings count before behind se
         wire = begun.wire;
         second = begun.second;
         set = begun.set;
+        age = begun.age;
         told = seconds begun.second begun.told;
         of_settings = begun.of_settings;
         first = record { sources = begun.first.sources; given = lists (Ok begun.first.sources) begun.first.given; passes = begun.first.passes; says = begun.first.says; kept_is = begun.first.kept_is; serial_is = begun.first.serial_is };
@@ -82,6 +95,9 @@ served_as Lists Others Wires Opened Seconds Told settings count before behind se
         guards = begun.guards;
         accepted = begun.accepted;
         refused = begun.refused;
+        read = begun.read;
+        answered = ages begun.age begun.answered;
+        aged = begun.aged;
         most = begun.most;
         listens = wires begun.wire begun.listens;
         turns = begun.turns;
@@ -89,16 +105,24 @@ served_as Lists Others Wires Opened Seconds Told settings count before behind se
       takes = record {
         moments = is.takes.moments;
         serves = all_as Lists Others lists settings.reread 0 is.takes.moments is.begun served is.takes.serves;
+        aged = aged_as Ages Aged ages is.takes.moments is.takes.aged;
+        attends = attends is.takes.moments is.takes.attends;
         told = is.takes.told;
         forward = is.takes.forward;
         few = is.takes.few;
-        all = is.takes.all;
       };
     }
 
+-- what is answered of a file's age is what the system says
+pub aged_by_system : (Lists : Result SourceTexts SourceFile → Type 0) (Answered : FileAge → Type 0) (Wires : WireState → Type 0) (Seconds : ℕ → Type 0) (Attends : CacheSettings → ℕ → List Moment → Type 0) (settings : CacheSettings) (count : ℕ) (before behind : List ℕ) (served : Served)
+    → IsServed Lists (AgesBy settings.stale Answered) Wires Seconds Attends settings count before behind served → IsServed Lists (SystemAges settings) Wires Seconds Attends settings count before behind served
+aged_by_system Lists Answered Wires Seconds Attends settings count before behind served is =
+    served_as Lists Lists (AgesBy settings.stale Answered) (SystemAges settings) Wires Wires Seconds Seconds Attends Attends settings count before behind served is (λ sources given. given) (λ age told. ages_as Answered settings.stale age told) (λ wire answered. answered) (λ second told. told)
+    (λ moments attends. attends)
+
 -- it listens where it was opened
-pub listens_there : (Lists : Result SourceTexts SourceFile → Type 0) (Seconds : ℕ → Type 0) (settings : CacheSettings) (count : ℕ) (before behind : List ℕ) (served : Served) (listens : Option SocketAddr)
-    → IsServed Lists (λ wire. wire ≡ nothing_told listens) Seconds settings count before behind served → served.turns.counts.wire.listens ≡ listens
-listens_there Lists Seconds settings count before behind served listens is =
+pub listens_there : (Lists : Result SourceTexts SourceFile → Type 0) (Ages : FileAge → Type 0) (Seconds : ℕ → Type 0) (Attends : CacheSettings → ℕ → List Moment → Type 0) (settings : CacheSettings) (count : ℕ) (before behind : List ℕ) (served : Served) (listens : Option SocketAddr)
+    → IsServed Lists Ages (λ wire. wire ≡ nothing_told listens) Seconds Attends settings count before behind served → served.turns.counts.wire.listens ≡ listens
+listens_there Lists Ages Seconds Attends settings count before behind served listens is =
     let steps = served_are_steps Lists settings.reread 0 is.takes.moments is.begun served is.takes.serves in
     listens_on steps.0 is.begun.turns served.turns steps.1 ∙ (ap (λ (t : Turns). t.counts.wire.listens) is.begins.turns ∙ ap (λ (w : WireState). w.listens) is.begins.listens)

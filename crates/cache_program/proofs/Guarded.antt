@@ -8,14 +8,18 @@ use Rattle.list_guards.specs.declared.Guards.{Guards}
 use Rattle.net_prefix.specs.declared.payload.Vrp.{Vrp}
 use Rattle.rtr_cache.specs.CacheTable.{Shared}
 use Rattle.wires.specs.Wires.{WireState}
+use Rattle.cache_desk.specs.Desks.{DeskState, Hearing}
 use Rattle.cache_desk.specs.declared.reading.Reading.{Reading}
+use Rattle.control_lines.specs.declared.talk.Wish.{Wish}
 use Rattle.cache_settings.specs.declared.settings.CacheSettings.{CacheSettings}
 use Rattle.cache_turns.specs.Turns.{Turns}
 use Rattle.payload_sources.specs.PayloadSources.{SourceTexts}
 use Rattle.payload_sources.specs.declared.fault.SourceFile.{SourceFile}
+use Rattle.cache_program.proofs.Attending.{all_taken, closed_desk}
 use Rattle.cache_program.proofs.Begun.{first_is_newest_set}
 use Rattle.cache_program.proofs.Newest.{newest_set-kept_after}
 use Rattle.log_lines.specs.Passing.{have_passed}
+use Rattle.cache_program.specs.AttendedTurns.{AttendsOperators, AttendsTurns}
 use Rattle.cache_program.specs.Rereads.{age_told, HandsIn, KeepsCount, Publishes, Rereads, RereadsFile, RereadsWhenDue, Served, WithdrawsWhere, is_stale, newest_set, served_set, versions}
 use Rattle.cache_program.specs.ServedTurns.{IsBegun, IsServed, Moment, NobodyAsks, ServesAll, ServesOnce, count_accepted, is_read}
 use Rattle.cache_watch.specs.declared.reread.ListFault.{ListFault}
@@ -104,11 +108,11 @@ withdrawn_keeps true old new withdraws = record {
 }
 
 -- a turn publishes nothing
-stays_once : (Lists : Result SourceTexts SourceFile → Type 0) (may : Bool) (asked : Option Reading) (is_due : Bool) (now : ℕ) (age : FileAge) (old new : Served) → (is_some (count_accepted asked old) ≡ true → may ≡ true) → ServesOnce Lists asked is_due now age old new → Stays may old new
-stays_once Lists may asked is_due now age old new allowed once =
-    let between = stays_due Lists may (count_accepted asked old) (is_read asked is_due) now age old once.rereads.0 once.between allowed once.rereads.1 in
-    let left = withdrawn_keeps (is_stale now once.between) once.between once.left once.withdraws in
-    let kept = (turn_keeps now once.left.turns new.turns (Ok tt) once.takes).0 in
+stays_once : (Lists : Result SourceTexts SourceFile → Type 0) (may : Bool) (is_due : Bool) (at : Moment) (old new : Served) → (is_some (count_accepted at.asked old) ≡ true → may ≡ true) → ServesOnce Lists is_due at old new → Stays may old new
+stays_once Lists may is_due at old new allowed once =
+    let between = stays_due Lists may (count_accepted at.asked old) (is_read at.asked is_due) at.now at.age old at.led once.between allowed once.rereads in
+    let left = withdrawn_keeps (is_stale at.now once.between) once.between once.left once.withdraws in
+    let kept = (turn_keeps at.now once.left.turns new.turns (Ok tt) once.takes).0 in
     record {
       guards = ap (λ (s : Served). s.guards) once.same ∙ left.guards ∙ between.guards;
       well = λ before. well_behind may old.guards once.between new (ap newest_set kept ∙ left.set) (ap (λ (s : Served). s.accepted) once.same ∙ left.accepted) (between.well before);
@@ -124,21 +128,27 @@ all_well : (Lists : Result SourceTexts SourceFile → Type 0) (seconds : Option 
     → (may ≡ false → NobodyAsks moments) → old.guards ≡ guards → IsWell may guards old → IsWell may guards new
 all_well Lists seconds may last [] guards old new same nobody is well = subst (λ (s : Served). IsWell may guards s) (sym same) well
 all_well Lists seconds may last (at ∷ moments) guards old new all nobody is well =
-    let stays = stays_once Lists may at.asked (have_passed seconds last at.now) at.now at.age old all.0 (only_where_one_may may at.asked old (λ off. (nobody off).0)) all.1 in
+    let stays = stays_once Lists may (have_passed seconds last at.now) at old all.0 (only_where_one_may may at.asked old (λ off. (nobody off).0)) all.1 in
     all_well Lists seconds may (if have_passed seconds last at.now then at.now else last) moments guards all.0 new all.2 (λ off. (nobody off).1) (stays.guards ∙ is)
     (subst (λ (g : Guards). IsWell may g all.0) is (stays.well (subst (λ (g : Guards). IsWell may g old) (sym is) well)))
 
-first_within : (Lists : Result SourceTexts SourceFile → Type 0) (Wires : WireState → Type 0) (Seconds : ℕ → Type 0) (settings : CacheSettings) (served : Served) → IsBegun Lists Wires Seconds settings served → IsWithin settings.guards (served_set served)
-first_within Lists Wires Seconds settings served begun =
+first_within : (Lists : Result SourceTexts SourceFile → Type 0) (Ages : FileAge → Type 0) (Wires : WireState → Type 0) (Seconds : ℕ → Type 0) (settings : CacheSettings) (served : Served) → IsBegun Lists Ages Wires Seconds settings served → IsWithin settings.guards (served_set served)
+first_within Lists Ages Wires Seconds settings served begun =
     let newest = first_is_newest_set Lists settings.guards begun.cache.shared.kept served.serial begun.set served.written begun.first in
     subst (λ (set : List Vrp). IsWithin settings.guards set)
     (newest ∙ sym (ap (λ (turns : Turns). newest_set turns.cache.shared.kept) begun.turns))
     (within settings.guards [] begun.set begun.first.passes.1)
 
-pub served_well : (Lists : Result SourceTexts SourceFile → Type 0) (Wires : WireState → Type 0) (Seconds : ℕ → Type 0) (settings : CacheSettings) (count : ℕ) (before behind : List ℕ) (served : Served)
-    → IsServed Lists Wires Seconds settings count before behind served → IsWell (is_some settings.control) settings.guards served
-served_well Lists Wires Seconds settings count before behind served is =
-    all_well Lists settings.reread (is_some settings.control) 0 is.takes.moments settings.guards is.begun served is.takes.serves (λ off. (is.takes.all off).1) is.begins.guards (inr (first_within Lists Wires Seconds settings is.begun is.begins))
+module _ {P : Type 0} (wish : P → ℕ → Wish) (line : P → ℕ → List ℕ) (goes : ℕ → P → P → Type 0) (hears : Hearing P) (Gives : List ℕ → P → Type 0) where
+  -- where the settings have no path for operators nobody asks
+  nobody_at : (settings : CacheSettings) (count : ℕ) (moments : List Moment) → AttendsOperators wish line goes hears Gives settings count moments → is_some settings.control ≡ false → NobodyAsks moments
+  nobody_at settings count moments is off =
+      (all_taken wish line goes hears is.left count moments (subst (λ (d : Option (DeskState P)). AttendsTurns wish line goes hears d is.left count moments) (closed_desk Gives settings.control is.desk is.opened off) is.takes)).1
+
+  pub served_well : (Lists : Result SourceTexts SourceFile → Type 0) (Ages : FileAge → Type 0) (Wires : WireState → Type 0) (Seconds : ℕ → Type 0) (settings : CacheSettings) (count : ℕ) (before behind : List ℕ) (served : Served)
+      → IsServed Lists Ages Wires Seconds (AttendsOperators wish line goes hears Gives) settings count before behind served → IsWell (is_some settings.control) settings.guards served
+  served_well Lists Ages Wires Seconds settings count before behind served is =
+      all_well Lists settings.reread (is_some settings.control) 0 is.takes.moments settings.guards is.begun served is.takes.serves (nobody_at settings count is.takes.moments is.takes.attends) is.begins.guards (inr (first_within Lists Ages Wires Seconds settings is.begun is.begins))
 
 -- and of each count alone
 enough_of : (may : Bool) (guards : Guards) (s : Served) → IsWell may guards s → ((may ≡ true) × (s.accepted ≡ true)) ⊎ HasEnough guards (served_set s)
@@ -149,12 +159,13 @@ room_of : (may : Bool) (guards : Guards) (s : Served) → IsWell may guards s �
 room_of may guards s (inl accepted) = inl accepted
 room_of may guards s (inr is) = inr is.1
 
-pub served_enough : (Lists : Result SourceTexts SourceFile → Type 0) (Wires : WireState → Type 0) (Seconds : ℕ → Type 0) (settings : CacheSettings) (count : ℕ) (before behind : List ℕ) (served : Served)
-    → IsServed Lists Wires Seconds settings count before behind served → ((is_some settings.control ≡ true) × (served.accepted ≡ true)) ⊎ HasEnough settings.guards (served_set served)
-served_enough Lists Wires Seconds settings count before behind served is =
-    enough_of (is_some settings.control) settings.guards served (served_well Lists Wires Seconds settings count before behind served is)
+module _ {P : Type 0} (wish : P → ℕ → Wish) (line : P → ℕ → List ℕ) (goes : ℕ → P → P → Type 0) (hears : Hearing P) (Gives : List ℕ → P → Type 0) where
+  pub served_enough : (Lists : Result SourceTexts SourceFile → Type 0) (Ages : FileAge → Type 0) (Wires : WireState → Type 0) (Seconds : ℕ → Type 0) (settings : CacheSettings) (count : ℕ) (before behind : List ℕ) (served : Served)
+      → IsServed Lists Ages Wires Seconds (AttendsOperators wish line goes hears Gives) settings count before behind served → ((is_some settings.control ≡ true) × (served.accepted ≡ true)) ⊎ HasEnough settings.guards (served_set served)
+  served_enough Lists Ages Wires Seconds settings count before behind served is =
+      enough_of (is_some settings.control) settings.guards served (served_well wish line goes hears Gives Lists Ages Wires Seconds settings count before behind served is)
 
-pub served_room : (Lists : Result SourceTexts SourceFile → Type 0) (Wires : WireState → Type 0) (Seconds : ℕ → Type 0) (settings : CacheSettings) (count : ℕ) (before behind : List ℕ) (served : Served)
-    → IsServed Lists Wires Seconds settings count before behind served → ((is_some settings.control ≡ true) × (served.accepted ≡ true)) ⊎ HasRoom settings.guards (served_set served)
-served_room Lists Wires Seconds settings count before behind served is =
-    room_of (is_some settings.control) settings.guards served (served_well Lists Wires Seconds settings count before behind served is)
+  pub served_room : (Lists : Result SourceTexts SourceFile → Type 0) (Ages : FileAge → Type 0) (Wires : WireState → Type 0) (Seconds : ℕ → Type 0) (settings : CacheSettings) (count : ℕ) (before behind : List ℕ) (served : Served)
+      → IsServed Lists Ages Wires Seconds (AttendsOperators wish line goes hears Gives) settings count before behind served → ((is_some settings.control ≡ true) × (served.accepted ≡ true)) ⊎ HasRoom settings.guards (served_set served)
+  served_room Lists Ages Wires Seconds settings count before behind served is =
+      room_of (is_some settings.control) settings.guards served (served_well wish line goes hears Gives Lists Ages Wires Seconds settings count before behind served is)

@@ -1,8 +1,10 @@
 pub mod Admitting
+pub mod Attending
 pub mod Begun
 pub mod EndedWell
 pub mod Guarded
 pub mod Newest
 pub mod Opening
 pub mod ServedTurns
+pub mod Stopping
 pub mod SystemFiles

@@ -10,8 +10,7 @@ use Rattle.payload_sources.specs.declared.fault.SourceFile.{SourceFile}
 use Rattle.log_lines.specs.Passing.{have_passed}
 use Rattle.log_lines.specs.declared.every.Every.{Every}
 use Rattle.cache_program.specs.Rereads.{age_told, HandsIn, Publishes, Rereads, RereadsFile, RereadsWhenDue, Served, WithdrawsWhere, is_stale}
-use Rattle.cache_desk.specs.declared.reading.Reading.{Reading}
-use Rattle.cache_program.specs.ServedTurns.{Moment, NobodyAsks, ServesAll, ServesOnce, ServesSoMany, count_accepted, is_read, nows}
+use Rattle.cache_program.specs.ServedTurns.{AreOfAge, Moment, ServesAll, ServesOnce, ServesSoMany, count_accepted, is_read, nows}
 use Rattle.cache_watch.specs.declared.reread.Reread.{Reread}
 use Rattle.cache_watch.specs.declared.reread.Reread.TheVariants.{Refused, Same, Published}
 use Rattle.cache_watch.specs.declared.telling.FileAge.{FileAge}
@@ -29,12 +28,12 @@ nows_more : (moments : List Moment) (at : Moment) → nows (moments ++ at ∷ []
 nows_more [] at = refl
 nows_more (moment ∷ moments) at = ap (λ (rest : List ℕ). moment.now ∷ rest) (nows_more moments at)
 
-nobody_more : (moments : List Moment) (at : Moment) → NobodyAsks moments → at.asked ≡ None → NobodyAsks (moments ++ at ∷ [])
-nobody_more [] at nobody none = (none, tt)
-nobody_more (moment ∷ moments) at nobody none = (nobody.0, nobody_more moments at nobody.1 none)
+aged_more : (Ages : FileAge → Type 0) (moments : List Moment) (at : Moment) → AreOfAge Ages moments → Ages at.age → AreOfAge Ages (moments ++ at ∷ [])
+aged_more Ages [] at so_far aged = (aged, tt)
+aged_more Ages (moment ∷ moments) at so_far aged = (so_far.0, aged_more Ages moments at so_far.1 aged)
 
-serves_more : (Lists : Result SourceTexts SourceFile → Type 0) (seconds : Option ℕ) (last : ℕ) (moments : List Moment) (at : Moment) (old mid new : Served) → ServesAll Lists seconds last moments old mid → ServesOnce Lists at.asked (have_passed seconds (last_after seconds last moments) at.now) at.now at.age mid new → ServesAll Lists seconds last (moments ++ at ∷ []) old new
-serves_more Lists seconds last [] at old mid new same once = (new, subst (λ (s : Served). ServesOnce Lists at.asked (have_passed seconds last at.now) at.now at.age s new) same once, refl)
+serves_more : (Lists : Result SourceTexts SourceFile → Type 0) (seconds : Option ℕ) (last : ℕ) (moments : List Moment) (at : Moment) (old mid new : Served) → ServesAll Lists seconds last moments old mid → ServesOnce Lists (have_passed seconds (last_after seconds last moments) at.now) at mid new → ServesAll Lists seconds last (moments ++ at ∷ []) old new
+serves_more Lists seconds last [] at old mid new same once = (new, subst (λ (s : Served). ServesOnce Lists (have_passed seconds last at.now) at s new) same once, refl)
 serves_more Lists seconds last (moment ∷ moments) at old mid new all once =
     (all.0, all.1, serves_more Lists seconds (if have_passed seconds last moment.now then moment.now else last) moments at all.0 mid new all.2 once)
 
@@ -45,79 +44,64 @@ due_of Lists Others wider accepts false now age old answer new none = none
 due_of Lists Others wider accepts true now age old answer new (led, is, sources, given, rereads) = (led, is, sources, wider sources given, rereads)
 
 pub once_of : (Lists Others : Result SourceTexts SourceFile → Type 0) → ((sources : Result SourceTexts SourceFile) → Lists sources → Others sources)
-    → (asked : Option Reading) (is_due : Bool) (now : ℕ) (old new : Served) → ((age : FileAge) × ServesOnce Lists asked is_due now age old new) → (age : FileAge) × ServesOnce Others asked is_due now age old new
-once_of Lists Others wider asked is_due now old new (age, once) = (
-  age,
-  record {
-    between = once.between;
-    left = once.left;
-    rereads = (once.rereads.0, due_of Lists Others wider (count_accepted asked old) (is_read asked is_due) now age old once.rereads.0 once.between once.rereads.1);
-    withdraws = once.withdraws;
-    takes = once.takes;
-    same = once.same;
-  },
-)
+    → (is_due : Bool) (at : Moment) (old new : Served) → ServesOnce Lists is_due at old new → ServesOnce Others is_due at old new
+once_of Lists Others wider is_due at old new once = record {
+  between = once.between;
+  left = once.left;
+  rereads = due_of Lists Others wider (count_accepted at.asked old) (is_read at.asked is_due) at.now at.age old at.led once.between once.rereads;
+  withdraws = once.withdraws;
+  takes = once.takes;
+  same = once.same;
+}
 
--- so many turns were taken, the list was due last at this moment, and where nobody may ask for a reading nobody did
-pub record AreServed (Lists : Result SourceTexts SourceFile → Type 0) (seconds : Option ℕ) (may_ask : Bool) (last count : ℕ) (before behind : List ℕ) (old new : Served) : Type 0 where
-  pub moments : List Moment
+-- turns were taken at these moments, and the list was due last at this one
+pub record AreServed (Lists : Result SourceTexts SourceFile → Type 0) (Ages : FileAge → Type 0) (seconds : Option ℕ) (last count : ℕ) (before behind : List ℕ) (moments : List Moment) (old new : Served) : Type 0 where
   pub serves : ServesAll Lists seconds 0 moments old new
+  pub aged : AreOfAge Ages moments
   pub last_is : last ≡ last_after seconds 0 moments
   pub told : behind ≡ told_behind (nows moments) before
   pub forward : NeverGoBack before → NeverGoBack behind
   pub counted : length moments ≡ count
-  pub nobody : may_ask ≡ false → NobodyAsks moments
 
-pub none_served : (Lists : Result SourceTexts SourceFile → Type 0) (seconds : Option ℕ) (may_ask : Bool) (before : List ℕ) (s : Served) → AreServed Lists seconds may_ask 0 0 before before s s
-none_served Lists seconds may_ask before s = record { moments = []; serves = refl; last_is = refl; told = refl; forward = λ all. all; counted = refl; nobody = λ off. tt }
+pub none_served : (Lists : Result SourceTexts SourceFile → Type 0) (Ages : FileAge → Type 0) (seconds : Option ℕ) (before : List ℕ) (s : Served) → AreServed Lists Ages seconds 0 0 before before [] s s
+none_served Lists Ages seconds before s = record { serves = refl; aged = tt; last_is = refl; told = refl; forward = λ all. all; counted = refl }
 
-pub one_more : (Lists : Result SourceTexts SourceFile → Type 0) (seconds : Option ℕ) (may_ask : Bool) (last count now : ℕ) (age : FileAge) (asked : Option Reading) (before mid behind : List ℕ) (old between new : Served) → AreServed Lists seconds may_ask last count before mid old between
-    → behind ≡ now ∷ mid → IsNotBefore now mid → (may_ask ≡ false → asked ≡ None) → ServesOnce Lists asked (have_passed seconds last now) now age between new → AreServed Lists seconds may_ask (if have_passed seconds last now then now else last) (count + 1) before behind old new
-one_more Lists seconds may_ask last count now age asked before mid behind old between new so_far reads later none once =
+one_more : (Lists : Result SourceTexts SourceFile → Type 0) (Ages : FileAge → Type 0) (seconds : Option ℕ) (last count : ℕ) (at : Moment) (before mid behind : List ℕ) (moments : List Moment) (old between new : Served) → AreServed Lists Ages seconds last count before mid moments old between
+    → behind ≡ at.now ∷ mid → IsNotBefore at.now mid → Ages at.age → ServesOnce Lists (have_passed seconds last at.now) at between new → AreServed Lists Ages seconds (if have_passed seconds last at.now then at.now else last) (count + 1) before behind (moments ++ at ∷ []) old new
+one_more Lists Ages seconds last count at before mid behind moments old between new so_far reads later aged once =
     let counted = so_far.counted in
-    let at : Moment = record { now = now; age = age; asked = asked } in
     record {
-      moments = so_far.moments ++ at ∷ [];
-      serves = serves_more Lists seconds 0 so_far.moments at old between new so_far.serves (subst (λ (l : ℕ). ServesOnce Lists asked (have_passed seconds l now) now age between new) so_far.last_is once);
-      last_is = ap (λ (l : ℕ). if have_passed seconds l now then now else l) so_far.last_is ∙ sym (last_more seconds 0 so_far.moments at);
-      told = reads ∙ ap (λ moments. now ∷ moments) so_far.told ∙ sym (told_one_more (nows so_far.moments) now before) ∙ ap (λ (m : List ℕ). told_behind m before) (sym (nows_more so_far.moments at));
+      serves = serves_more Lists seconds 0 moments at old between new so_far.serves (subst (λ (l : ℕ). ServesOnce Lists (have_passed seconds l at.now) at between new) so_far.last_is once);
+      aged = aged_more Ages moments at so_far.aged aged;
+      last_is = ap (λ (l : ℕ). if have_passed seconds l at.now then at.now else l) so_far.last_is ∙ sym (last_more seconds 0 moments at);
+      told = reads ∙ ap (λ moments. at.now ∷ moments) so_far.told ∙ sym (told_one_more (nows moments) at.now before) ∙ ap (λ (m : List ℕ). told_behind m before) (sym (nows_more moments at));
       forward = λ all. subst (λ moments. NeverGoBack moments) (sym reads) (later, so_far.forward all);
-      counted = omega (arith, length-append so_far.moments (at ∷ []), counted);
-      nobody = λ off. nobody_more so_far.moments at (so_far.nobody off) (none off);
+      counted = omega (arith, length-append moments (at ∷ []), counted);
     }
 
 -- a turn, behind which nothing changes
-pub turn_served : (Lists : Result SourceTexts SourceFile → Type 0) (seconds : Option ℕ) (may_ask : Bool) (due after : Every) (count now : ℕ) (asked : Option Reading) (before mid behind : List ℕ) (start between new left : Served) → due.seconds ≡ seconds
-    → after ≡ record due { last = if have_passed due.seconds due.last now then now else due.last } → AreServed Lists seconds may_ask due.last count before mid start between → behind ≡ now ∷ mid → IsNotBefore now mid → (may_ask ≡ false → asked ≡ None)
-    → ((age : FileAge) × ServesOnce Lists asked (have_passed due.seconds due.last now) now age between new) → left ≡ new → AreServed Lists seconds may_ask after.last (count + 1) before behind start left
-turn_served Lists seconds may_ask due after count now asked before mid behind start between new left told is so_far reads later none once same =
-    let last_is : after.last ≡ (if have_passed seconds due.last now then now else due.last) =
-    ap (λ (e : Every). e.last) is ∙ ap (λ (s : Option ℕ). if have_passed s due.last now then now else due.last) told in
-    let served = subst (λ (s : Option ℕ). ServesOnce Lists asked (have_passed s due.last now) now once.0 between new) told once.1 in
-    let more = one_more Lists seconds may_ask due.last count now once.0 asked before mid behind start between new so_far reads later none served in
-    subst (λ (s : Served). AreServed Lists seconds may_ask after.last (count + 1) before behind start s) (sym same)
-    (subst (λ (l : ℕ). AreServed Lists seconds may_ask l (count + 1) before behind start new) (sym last_is) more)
+pub turn_served : (Lists : Result SourceTexts SourceFile → Type 0) (Ages : FileAge → Type 0) (seconds : Option ℕ) (due after : Every) (count : ℕ) (at : Moment) (before mid behind : List ℕ) (moments : List Moment) (start between new left : Served) → due.seconds ≡ seconds
+    → after ≡ record due { last = if have_passed due.seconds due.last at.now then at.now else due.last } → AreServed Lists Ages seconds due.last count before mid moments start between → behind ≡ at.now ∷ mid → IsNotBefore at.now mid → Ages at.age
+    → ServesOnce Lists (have_passed due.seconds due.last at.now) at between new → left ≡ new → AreServed Lists Ages seconds after.last (count + 1) before behind (moments ++ at ∷ []) start left
+turn_served Lists Ages seconds due after count at before mid behind moments start between new left told is so_far reads later aged once same =
+    let last_is : after.last ≡ (if have_passed seconds due.last at.now then at.now else due.last) =
+    ap (λ (e : Every). e.last) is ∙ ap (λ (s : Option ℕ). if have_passed s due.last at.now then at.now else due.last) told in
+    let served = subst (λ (s : Option ℕ). ServesOnce Lists (have_passed s due.last at.now) at between new) told once in
+    let more = one_more Lists Ages seconds due.last count at before mid behind moments start between new so_far reads later aged served in
+    subst (λ (s : Served). AreServed Lists Ages seconds after.last (count + 1) before behind (moments ++ at ∷ []) start s) (sym same)
+    (subst (λ (l : ℕ). AreServed Lists Ages seconds l (count + 1) before behind (moments ++ at ∷ []) start new) (sym last_is) more)
 
--- just so many turns were taken
-pub all_served : (Lists : Result SourceTexts SourceFile → Type 0) (seconds : Option ℕ) (may_ask : Bool) (last taken count : ℕ) (before behind : List ℕ) (old new : Served) → AreServed Lists seconds may_ask last taken before behind old new → taken ≡ count → ServesSoMany Lists seconds may_ask count before behind old new
-all_served Lists seconds may_ask last taken count before behind old new served is = record {
-  moments = served.moments;
+-- no more were than so many
+pub so_many_served : (Lists : Result SourceTexts SourceFile → Type 0) (Ages : FileAge → Type 0) (Attends : ℕ → List Moment → Type 0) (seconds : Option ℕ) (last count most : ℕ) (before behind : List ℕ) (moments : List Moment) (old new : Served) → AreServed Lists Ages seconds last count before behind moments old new
+    → count ≤ most → Attends most moments → ServesSoMany Lists Ages Attends seconds most before behind old new
+so_many_served Lists Ages Attends seconds last count most before behind moments old new served bound attends = record {
+  moments = moments;
   serves = served.serves;
-  told = served.told;
-  forward = served.forward;
-  few = (let counted = served.counted in omega (arith, counted, is));
-  all = λ off. (served.counted ∙ is, served.nobody off);
-}
-
--- where operators may ask, no more were
-pub fewer_served : (Lists : Result SourceTexts SourceFile → Type 0) (seconds : Option ℕ) (may_ask : Bool) (last count most : ℕ) (before behind : List ℕ) (old new : Served) → AreServed Lists seconds may_ask last count before behind old new → (may_ask ≡ false → ⊥) → count ≤ most → ServesSoMany Lists seconds may_ask most before behind old new
-fewer_served Lists seconds may_ask last count most before behind old new served some_may bound = record {
-  moments = served.moments;
-  serves = served.serves;
+  aged = served.aged;
+  attends = attends;
   told = served.told;
   forward = served.forward;
   few = (let counted = served.counted in omega (arith, counted, bound));
-  all = λ off. absurd (some_may off);
 }
 
 -- a set that is handed in is loaded into the loop
@@ -156,7 +140,7 @@ pub served_are_steps : (Lists : Result SourceTexts SourceFile → Type 0) (secon
 served_are_steps Lists seconds last [] old new same = ([], ap (λ (s : Served). s.turns) same)
 served_are_steps Lists seconds last (at ∷ moments) old new all =
     let once = all.1 in
-    let read = steps_due Lists (count_accepted at.asked old) (is_read at.asked (have_passed seconds last at.now)) at.now at.age old once.rereads.0 once.between once.rereads.1 in
+    let read = steps_due Lists (count_accepted at.asked old) (is_read at.asked (have_passed seconds last at.now)) at.now at.age old at.led once.between once.rereads in
     let withdrawn = steps_withdrawn (is_stale at.now once.between) once.between once.left once.withdraws in
     let before = steps_then read.0 withdrawn.0 old.turns once.between.turns once.left.turns read.1 withdrawn.1 in
     let more = served_are_steps Lists seconds (if have_passed seconds last at.now then at.now else last) moments all.0 new all.2 in

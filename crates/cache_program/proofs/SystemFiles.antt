@@ -5,7 +5,10 @@ use Rattle.payload_sources.specs.OpenedSources.{Gives, Opens, OpensBehind, Opens
 use Rattle.payload_sources.specs.PayloadSources.{SourceTexts}
 use Rattle.payload_sources.specs.declared.fault.SourceFile.{SourceFile}
 use Rattle.cache_settings.specs.declared.settings.CacheSettings.{CacheSettings}
-use Rattle.cache_program.specs.Opened.{Gives as GivesFiles, IsOpenedAt, SystemGives, expiring_at}
+use Rattle.cache_settings.specs.declared.settings.Stale.{Stale}
+use Rattle.cache_settings.specs.declared.settings.Stale.TheVariants.{Serve, Withdraw}
+use Rattle.cache_watch.specs.declared.telling.FileAge.{FileAge}
+use Rattle.cache_program.specs.Opened.{AgesBy, Gives as GivesFiles, IsOpenedAt, SystemGives, expiring_at}
 
 abbrev text_of : OpenedFile → Option (List ℕ)
 text_of file = file.text
@@ -40,3 +43,8 @@ pub at_second : {L E S U : Type 0} (Answers : List ℕ → Result L E → Type 0
     → MatchResult r (λ s. GivesFiles Answers remaining settings (Ok (texts s))) (λ u. GivesFiles Answers remaining settings (Err (which u)))
 at_second Answers remaining settings second (Ok s) texts which h = (second, h)
 at_second Answers remaining settings second (Err u) texts which h = (second, h)
+
+-- a file is as old as the system says, whatever it says
+pub ages_as : (Answered : FileAge → Type 0) (stale : Stale) (age : FileAge) → AgesBy stale Answered age → AgesBy stale (λ told. Unit {0}) age
+ages_as Answered Serve age is = is
+ages_as Answered Withdraw age is = tt

@@ -1,3 +1,4 @@
+pub mod AttendedTurns
 pub mod CacheOfSettings
 pub mod Checked
 pub mod Endings

@@ -10,6 +10,9 @@ use Rattle.payload_sources.specs.PayloadSources.{SourceTexts}
 use Rattle.payload_sources.specs.declared.fault.SourceFile.{SourceFile}
 use Rattle.cache_settings.specs.ToldSettings.{IsToldBy}
 use Rattle.cache_settings.specs.declared.settings.CacheSettings.{CacheSettings}
+use Rattle.cache_settings.specs.declared.settings.Stale.{Stale}
+use Rattle.cache_settings.specs.declared.settings.Stale.TheVariants.{Serve, Withdraw}
+use Rattle.cache_watch.specs.declared.telling.FileAge.{FileAge}
 
 -- the second at which what has expired is left out of a list, where the settings say so
 abbrev pub expiring_at : CacheSettings → ℕ → Option ℕ
@@ -45,16 +48,34 @@ pub record AreSettingsOf (text : Option (List ℕ)) (settings : CacheSettings) :
 abbrev pub AreSettingsAt : {L E : Type 0} → (Result L E → Type 0) → (L → Option (List ℕ)) → CacheSettings → Type 0
 AreSettingsAt {L} {E} Answers remaining settings = (file : L) × Answers (Ok file) × AreSettingsOf (remaining file) settings
 
+-- how old the list's file is, as the answer to its path has it, where lists are withdrawn that are too old; else that doesn't matter
+abbrev pub AgesBy : Stale → (FileAge → Type 0) → FileAge → Type 0
+AgesBy Serve Answers age = age ≡ record { second = 0; seconds = 0 }
+AgesBy Withdraw Answers age = Answers age
+
+abbrev pub Ages : (List ℕ → FileAge → Type 0) → CacheSettings → FileAge → Type 0
+Ages Answers settings age = AgesBy settings.stale (Answers (string_bytes settings.csv)) age
+
 -- the wire is one that is answered
 abbrev pub Listens : {W E : Type 0} → (Result W E → Type 0) → (W → WireState) → WireState → Type 0
 Listens {W} {E} Answers state wire = (listening : W) × Answers (Ok listening) × (wire ≡ state listening)
 
 -- whatever the system answers
+abbrev pub AnyPath : {P : Type 0} → List ℕ → P → Type 0
+AnyPath path there = Unit {0}
+
 abbrev pub AnyList : Result SourceTexts SourceFile → Type 0
 AnyList sources = Unit {0}
 
 abbrev pub AnyWire : WireState → Type 0
 AnyWire wire = Unit {0}
 
+abbrev pub AnyAge : FileAge → Type 0
+AnyAge age = Unit {0}
+
 abbrev pub AnySecond : ℕ → Type 0
 AnySecond second = Unit {0}
+
+-- how old the system says that the file is
+abbrev pub SystemAges : CacheSettings → FileAge → Type 0
+SystemAges settings age = Ages (λ path told. Unit {0}) settings age

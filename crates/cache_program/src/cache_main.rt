@@ -1,7 +1,7 @@
 //! What the main of `ovcache` does.
-ghost use Rattle.std.specs.Prelude.{◌≡◌, ◌≤◌, [], ◌∷◌, ℕ, List, Ok, Some, IfErr, IfOk, MatchResult, OnErr, OnOk, None, false, if◌then◌else◌, is_some};
+ghost use Rattle.std.specs.Prelude.{◌≡◌, ◌≤◌, [], ◌∷◌, ℕ, List, Ok, Some, IfErr, IfOk, MatchResult, OnErr, OnOk, Option, None, false, if◌then◌else◌};
 ghost use Rattle.clocks.specs.Moments.{IsNotBefore, moments_of};
-ghost use Rattle.std.specs.Fn.{FnReturnsAt};
+ghost use Rattle.std.specs.Fn.{FnOnceReturnsAt, FnReturnsAt};
 ghost use Rattle.std.specs.Result.{IsErrAnd};
 ghost use Rattle.program_endings.specs.Asides.{Asks};
 ghost use Rattle.program_endings.specs.declared.aside.Aside.{Aside};
@@ -9,11 +9,14 @@ ghost use Rattle.payload_sources.specs.PayloadSources.{SourceTexts};
 ghost use Rattle.cache_program.specs.Endings.{EndsSo, IsOfWords, status_at_end};
 ghost use Rattle.cache_program.specs.Checked.{IsChecked, IsCheckedBy};
 ghost use Rattle.cache_program.specs.FirstList.{Passes};
-ghost use Rattle.cache_program.specs.Opened.{AnySecond, AreSettingsAt, Gives, GivesAt, IsOpenedAt, Listens, SystemGives};
+ghost use Rattle.cache_desk.specs.Desks.{AtDesk, TellsIf};
+ghost use Rattle.cache_program.specs.AttendedTurns.{AttendsOperators, AttendsSocket, AttendsTurns, HearsAt, IsDeskOf};
+ghost use Rattle.cache_program.specs.Opened.{Ages, AnySecond, AreSettingsAt, Gives, GivesAt, IsOpenedAt, Listens, SystemAges, SystemGives};
 ghost use Rattle.log_lines.specs.Passing.{have_passed};
 ghost use Rattle.cache_program.specs.Rereads.{Served};
 ghost use Rattle.cache_program.specs.ServedTurns.{IsBegun, IsServed, ServesOnce, ServesSoMany, oldest_of};
 ghost use Rattle.cache_settings.specs.declared.settings.CacheSettings.{CacheSettings};
+ghost use Rattle.cache_watch.specs.declared.reread.Reread.{Reread};
 ghost use Rattle.cache_watch.specs.declared.telling.FileAge.{FileAge};
 ghost use Rattle.cache_turns.specs.Turns.{idle};
 ghost use Rattle.program_endings.specs.Words.{IsCall};
@@ -69,10 +72,11 @@ where
     ensures silent { result ≡ 0 → errors.new ≡ errors.old }
     // The status is 0 only where the settings that a file tells were served for just the turns of the words, a file that was
     // opened at the path of the words: with the lists of files that were opened at their paths, over a wire that was opened
-    // where they listen, and that listens there still, at the moments of the instants that the system's clock answered.
+    // where they listen, and that listens there still, at the moments of the instants that the system's clock answered, and
+    // with operators at a socket attended to at each moment, where they have a path for one.
     ensures serves { ((aside : Aside) → ¬ (Asks words.now aside)) → result ≡ 0 → (path : List ℕ) × (turns : ℕ) × (settings : CacheSettings) × (instants : List ℕ) × (served : Served)
         × IsCall words.now path turns × AreSettingsAt (IsOpenedAt path) (λ file. file.text) settings
-        × IsServed (SystemGives settings) (λ wire. wire ≡ nothing_told (Some settings.listen)) AnySecond settings turns [] (moments_of instants) served × (served.turns.counts.wire.listens ≡ Some settings.listen) }
+        × IsServed (SystemGives settings) (SystemAges settings) (λ wire. wire ≡ nothing_told (Some settings.listen)) AnySecond AttendsSocket settings turns [] (moments_of instants) served × (served.turns.counts.wire.listens ≡ Some settings.listen) }
     // Where they are to be checked, it is 0 only where a file that was opened at their path tells settings whose guards let the
     // list of the files that were opened at theirs be served.
     ensures checks { (aside : Aside) → Asks words.now aside → result ≡ 0 → IsCheckedBy aside }
@@ -98,7 +102,7 @@ where
     ensures silent { result ≡ 0 → errors.new ≡ errors.old }
     ensures serves { result ≡ 0 → (path : List ℕ) × (turns : ℕ) × (settings : CacheSettings) × (instants : List ℕ) × (served : Served)
         × IsCall words.now path turns × AreSettingsAt (IsOpenedAt path) (λ file. file.text) settings
-        × IsServed (SystemGives settings) (λ wire. wire ≡ nothing_told (Some settings.listen)) AnySecond settings turns [] (moments_of instants) served × (served.turns.counts.wire.listens ≡ Some settings.listen) }
+        × IsServed (SystemGives settings) (SystemAges settings) (λ wire. wire ≡ nothing_told (Some settings.listen)) AnySecond AttendsSocket settings turns [] (moments_of instants) served × (served.turns.counts.wire.listens ≡ Some settings.listen) }
 {
     let mut clock = MonotonicClock::new(rt);
     let served = serve_words(rt, words, output, &mut clock);
@@ -128,7 +132,7 @@ where
     ensures output { IsErrAnd result IsOfWords → output.new ≡ output.old }
     ensures serves { IfOk result (λ served. (path : List ℕ) × (turns : ℕ) × (settings : CacheSettings)
         × IsCall words.now path turns × AreSettingsAt (IsOpenedAt path) (λ file. file.text) settings
-        × IsServed (SystemGives settings) (λ wire. wire ≡ nothing_told (Some settings.listen)) AnySecond settings turns (C.readings clock.old) (C.readings clock.new) served × (served.turns.counts.wire.listens ≡ Some settings.listen)) }
+        × IsServed (SystemGives settings) (SystemAges settings) (λ wire. wire ≡ nothing_told (Some settings.listen)) AnySecond AttendsSocket settings turns (C.readings clock.old) (C.readings clock.new) served × (served.turns.counts.wire.listens ≡ Some settings.listen)) }
 {
     run_cache(
         rt,
@@ -136,6 +140,7 @@ where
         output,
         clock,
         |path: &str| open_at(rt, path),
+        |path: &str| file_age(rt, path),
         |listen: SocketAddr| NetWire::listening(rt, listen),
         |address: SocketAddr| MetricsSocket::open(rt, address),
         |path: &str| ControlSocket::open(rt, path),
@@ -227,6 +232,7 @@ fn run_cache<
     P: Scrapers + Drop,
     Q: Operators + Drop,
     F,
+    A,
     G,
     D,
     K,
@@ -237,6 +243,7 @@ fn run_cache<
     output: &mut O,
     clock: &mut C,
     opens: F,
+    ages: A,
     listens: G,
     scrapes: D,
     controls: K,
@@ -245,10 +252,12 @@ fn run_cache<
 where
     R: Files + Clock + AllocGlobal,
     F: Fn(&str) -> io::Result<L>,
+    A: Fn(&str) -> FileAge,
     G: FnOnce(SocketAddr) -> io::Result<W>,
     D: FnOnce(SocketAddr) -> io::Result<P>,
     K: FnOnce(&str) -> io::Result<Q>,
     requires opens { F.IsAlwaysCallable opens }
+    requires ages { A.IsAlwaysCallable ages }
     requires listens { G.IsAlwaysCallable listens }
     requires scrapes { D.IsAlwaysCallable scrapes }
     requires controls { K.IsAlwaysCallable controls }
@@ -258,12 +267,13 @@ where
     // The settings of the file that opening the path of the words gave were served for just the turns of the words.
     ensures serves { IfOk result (λ served. (path : List ℕ) × (turns : ℕ) × (settings : CacheSettings)
         × IsCall words.now path turns × AreSettingsAt (FnReturnsAt F.Fn opens path) L.remaining settings
-        × IsServed (Gives (FnReturnsAt F.Fn opens) L.remaining settings) (Listens (G.post listens settings.listen) W.state) (λ second. S.told seconds.new ≡ Some second) settings turns (C.readings clock.old) (C.readings clock.new) served) }
+        × IsServed (Gives (FnReturnsAt F.Fn opens) L.remaining settings) (Ages (FnReturnsAt A.Fn ages) settings) (Listens (G.post listens settings.listen) W.state) (λ second. S.told seconds.new ≡ Some second)
+        (AttendsOperators Q.wish Q.line Q.turns Q.hears (λ path there. FnOnceReturnsAt K.FnOnce controls path (Ok there))) settings turns (C.readings clock.old) (C.readings clock.new) served) }
 {
     let (path, turns) = call_of(words)?;
     let settings = read_settings(rt.alloc(), path, &opens)?;
     serve_cache(
-        rt, &settings, turns, output, clock, opens, listens, scrapes, controls, seconds,
+        rt, &settings, turns, output, clock, opens, ages, listens, scrapes, controls, seconds,
     )
 }
 
@@ -292,12 +302,13 @@ fn read_clock<C: SecondsClock>(clock: &mut C) -> Result<u64, CacheFault>
 
 /// Serves the list of these settings for so many turns, each at the moment that the clock tells for it: the list is read
 /// before the first, and again between two of them, as `ServedList::serve` says of each, under the exceptions of the SLURM
-/// file where there is one. The files are what `opens` answers at their paths; the wire is what `listens` answers at the
-/// address where the settings listen, and `seconds` tells the second of the start. Scrapers are what `scrapes` answers at the
-/// address where the settings have them ask for figures, if they do: they are attended to between turns, and change nothing
-/// of what is served. Operators are what `controls` answers at the path where the settings have them ask, if they do: between
-/// turns they have the list read, under the guards of the settings or, where one accepts what these refuse, without, or the
-/// program stopped, and change nothing else. Answers what is served behind the last turn. Nothing is written to the output
+/// file where there is one. The files are what `opens` answers at their paths, and the list's is as old as `ages` answers; the
+/// wire is what `listens` answers at the address where the settings listen, and `seconds` tells the second of the start.
+/// Scrapers are what `scrapes` answers at the address where the settings have them ask for figures, if they do: they are
+/// attended to between turns, and change nothing of what is served. Operators are what `controls` answers at the path where
+/// the settings have them ask, if they do: each is visited at each moment and answered, between turns they have the list read,
+/// under the guards of the settings or, where one accepts what these refuse, without, or the program stopped, and change
+/// nothing else (`specs/AttendedTurns.antt`). Answers what is served behind the last turn. Nothing is written to the output
 /// where the settings ask for no log.
 pub fn serve_cache<
     R,
@@ -308,6 +319,7 @@ pub fn serve_cache<
     P: Scrapers + Drop,
     Q: Operators + Drop,
     F,
+    A,
     G,
     D,
     K,
@@ -319,6 +331,7 @@ pub fn serve_cache<
     output: &mut O,
     clock: &mut C,
     opens: F,
+    ages: A,
     listens: G,
     scrapes: D,
     controls: K,
@@ -327,19 +340,22 @@ pub fn serve_cache<
 where
     R: Files + Clock + AllocGlobal,
     F: Fn(&str) -> io::Result<L>,
+    A: Fn(&str) -> FileAge,
     G: FnOnce(SocketAddr) -> io::Result<W>,
     D: FnOnce(SocketAddr) -> io::Result<P>,
     K: FnOnce(&str) -> io::Result<Q>,
     requires opens { F.IsAlwaysCallable opens }
+    requires ages { A.IsAlwaysCallable ages }
     requires listens { G.IsAlwaysCallable listens }
     requires scrapes { D.IsAlwaysCallable scrapes }
     requires controls { K.IsAlwaysCallable controls }
     ensures fault { IfErr result (λ fault. ¬ (IsOfWords fault)) }
     ensures quiet { settings.now.log ≡ false → output.new ≡ output.old }
-    ensures serves { IfOk result (IsServed (Gives (FnReturnsAt F.Fn opens) L.remaining settings.now) (Listens (G.post listens settings.now.listen) W.state) (λ second. S.told seconds.new ≡ Some second) settings.now turns (C.readings clock.old) (C.readings clock.new)) }
+    ensures serves { IfOk result (IsServed (Gives (FnReturnsAt F.Fn opens) L.remaining settings.now) (Ages (FnReturnsAt A.Fn ages) settings.now) (Listens (G.post listens settings.now.listen) W.state) (λ second. S.told seconds.new ≡ Some second)
+        (AttendsOperators Q.wish Q.line Q.turns Q.hears (λ path there. FnOnceReturnsAt K.FnOnce controls path (Ok there))) settings.now turns (C.readings clock.old) (C.readings clock.new)) }
 {
     let second = second_of(seconds)?;
-    let mut served = begin(rt, settings, second, output, &opens, listens)?;
+    let mut served = begin(rt, settings, second, output, &opens, &ages, listens)?;
     let session = session_id(settings.session, second);
     let mut watch = watch_of(rt, settings, session, output, scrapes)?;
     let mut desk = desk_of(rt.alloc(), settings, controls)?;
@@ -353,6 +369,7 @@ where
         output,
         clock,
         &opens,
+        &ages,
         &mut watch,
         &mut desk,
     )?;
@@ -394,7 +411,7 @@ where
     K: FnOnce(&str) -> io::Result<Q>,
     requires { K.IsAlwaysCallable controls }
     ensures fault { IfErr result (λ fault. ¬ (IsOfWords fault)) }
-    ensures open { IfOk result (λ desk. desk ≡ is_some settings.now.control) }
+    ensures open { IfOk result (IsDeskOf (λ path there. FnOnceReturnsAt K.FnOnce controls path (Ok there)) settings.now.control) }
 {
     let Some(path) = &settings.control else {
         return Ok(Desk::closed());
@@ -407,25 +424,28 @@ where
 }
 
 // The list of the settings, begun in this second, before its first turn.
-fn begin<R, O: Write, L: Read + Steady + Drop, W: Wire + Watched + Drop, F, G>(
+fn begin<R, O: Write, L: Read + Steady + Drop, W: Wire + Watched + Drop, F, A, G>(
     rt: &R,
     settings: &CacheSettings,
     second: u64,
     output: &mut O,
     opens: &F,
+    ages: &A,
     listens: G,
 ) -> Result<ServedList<W>, CacheFault>
 where
-    R: Files + Clock + AllocGlobal,
+    R: Clock + AllocGlobal,
     F: Fn(&str) -> io::Result<L>,
+    A: Fn(&str) -> FileAge,
     G: FnOnce(SocketAddr) -> io::Result<W>,
     requires opens { F.IsAlwaysCallable opens.now }
+    requires ages { A.IsAlwaysCallable ages.now }
     requires listens { G.IsAlwaysCallable listens }
     ensures fault { IfErr result (λ fault. ¬ (IsOfWords fault)) }
-    ensures begins { IfOk result (IsBegun (Gives (FnReturnsAt F.Fn opens.now) L.remaining settings.now) (Listens (G.post listens settings.now.listen) W.state) (λ told. told ≡ second) settings.now) }
+    ensures begins { IfOk result (IsBegun (Gives (FnReturnsAt F.Fn opens.now) L.remaining settings.now) (Ages (FnReturnsAt A.Fn ages.now) settings.now) (Listens (G.post listens settings.now.listen) W.state) (λ told. told ≡ second) settings.now) }
     ensures quiet { settings.now.log ≡ false → output.new ≡ output.old }
 {
-    let file = list_age(rt, settings);
+    let file = list_age(settings, ages);
     let (cache, serial, read) = load_cache(rt, settings, second, output, opens)?;
     let age = age_told(read.written, file);
     let turns = over_wire(rt.alloc(), settings, cache, listens)?;
@@ -445,10 +465,15 @@ fn oldest_of(settings: &CacheSettings) -> Option<u32>
 }
 
 // How old the file of the list is, where that matters.
-fn list_age<R: Files + Clock>(rt: &R, settings: &CacheSettings) -> FileAge {
+fn list_age<A>(settings: &CacheSettings, ages: &A) -> FileAge
+where
+    A: Fn(&str) -> FileAge,
+    requires { A.IsAlwaysCallable ages.now }
+    ensures { Ages (FnReturnsAt A.Fn ages.now) settings.now result }
+{
     match settings.stale {
         Stale::Serve => FileAge::NEW,
-        Stale::Withdraw => file_age(rt, settings.csv.as_str()),
+        Stale::Withdraw => ages(settings.csv.as_str()),
     }
 }
 
@@ -504,6 +529,7 @@ fn take_turns<
     P: Scrapers + Drop,
     Q: Operators + Drop,
     F,
+    A,
 >(
     rt: &R,
     settings: &CacheSettings,
@@ -512,16 +538,20 @@ fn take_turns<
     output: &mut O,
     clock: &mut C,
     opens: &F,
+    ages: &A,
     watch: &mut Watch<P>,
     desk: &mut Desk<Q>,
 ) -> Result<(), CacheFault>
 where
     R: Files + Clock + AllocGlobal,
     F: Fn(&str) -> io::Result<L>,
-    requires { F.IsAlwaysCallable opens.now }
+    A: Fn(&str) -> FileAge,
+    requires opens { F.IsAlwaysCallable opens.now }
+    requires ages { A.IsAlwaysCallable ages.now }
     ensures fault { IfErr result (λ fault. ¬ (IsOfWords fault)) }
     ensures quiet { settings.now.log ≡ false → output.new ≡ output.old }
-    ensures turns { OnOk result (ServesSoMany (Gives (FnReturnsAt F.Fn opens.now) L.remaining settings.now) settings.now.reread desk.old turns (C.readings clock.old) (C.readings clock.new) served.old served.new) }
+    ensures turns { OnOk result (ServesSoMany (Gives (FnReturnsAt F.Fn opens.now) L.remaining settings.now) (Ages (FnReturnsAt A.Fn ages.now) settings.now) (AttendsTurns Q.wish Q.line Q.turns Q.hears desk.old desk.new) settings.now.reread turns
+        (C.readings clock.old) (C.readings clock.new) served.old served.new) }
 {
     let mut reread = Every::new(settings.reread);
     let mut status = Every::new(settings.status);
@@ -542,6 +572,7 @@ where
             desk,
             output,
             opens,
+            ages,
         )?;
         let wire = served.turns().wire();
         tell_routers(rt, settings.log, wire, now, &mut limit, output);
@@ -556,6 +587,7 @@ where
 }
 
 // The operators' turn: those who wait are answered by what is there to see. Answers which reading of the list one asks for.
+#[tactic(auto, using(crate::proofs::Attending::heard_none, crate::proofs::Attending::heard_all))]
 fn hear<R: Files + Clock, W: Wire + Drop, Q: Operators + Drop>(
     rt: &R,
     settings: &CacheSettings,
@@ -563,8 +595,7 @@ fn hear<R: Files + Clock, W: Wire + Drop, Q: Operators + Drop>(
     now: u64,
     desk: &mut Desk<Q>,
 ) -> Option<Reading>
-    ensures same { desk.new ≡ desk.old }
-    ensures nobody { desk.old ≡ false → result ≡ None }
+    ensures { HearsAt Q.wish Q.line Q.turns Q.hears now result desk.old desk.new }
 {
     if !desk.visit(now) {
         return None;
@@ -633,6 +664,7 @@ fn serve_once<
     P: Scrapers,
     Q: Operators + Drop,
     F,
+    A,
 >(
     rt: &R,
     settings: &CacheSettings,
@@ -645,19 +677,22 @@ fn serve_once<
     desk: &mut Desk<Q>,
     output: &mut O,
     opens: &F,
+    ages: &A,
 ) -> Result<(), CacheFault>
 where
-    R: Files + Clock + AllocGlobal,
+    R: Clock + AllocGlobal,
     F: Fn(&str) -> io::Result<L>,
-    requires { F.IsAlwaysCallable opens.now }
+    A: Fn(&str) -> FileAge,
+    requires opens { F.IsAlwaysCallable opens.now }
+    requires ages { A.IsAlwaysCallable ages.now }
     ensures fault { IfErr result (λ fault. ¬ (IsOfWords fault)) }
     ensures quiet { settings.now.log ≡ false → output.new ≡ output.old }
-    ensures desk { desk.new ≡ desk.old }
     ensures due { reread.new ≡ record reread.old { last = if have_passed reread.old.seconds reread.old.last now then now else reread.old.last } }
-    ensures serves { OnOk result ((age : FileAge) × ServesOnce (GivesAt (FnReturnsAt F.Fn opens.now) L.remaining settings.now second) asked (have_passed reread.old.seconds reread.old.last now) now age served.old served.new) }
+    ensures serves { OnOk result ((age : FileAge) × (led : Option Reread) × Ages (FnReturnsAt A.Fn ages.now) settings.now age × AtDesk (TellsIf Q.hears led) desk.old desk.new
+        × ServesOnce (GivesAt (FnReturnsAt F.Fn opens.now) L.remaining settings.now second) (have_passed reread.old.seconds reread.old.last now) (record { now = now; age = age; asked = asked; led = led }) served.old served.new) }
 {
     tell_asked(rt, settings, asked, output);
-    let age = list_age(rt, settings);
+    let age = list_age(settings, ages);
     let was_withdrawn = served.is_withdrawn();
     let (led, turned) = served.serve(rt.alloc(), now, age, asked, reread, settings, second, opens);
     watch.count(led);

@@ -1,5 +1,5 @@
 -- No octet of an operator is lost, and none comes twice.
-use Rattle.std.proofs.Common.{◌≡◌, ◌≢◌, ◌==◌, ◌≤◌, ◌&&◌, ◌++◌, ◌∷◌, ◌∙◌, if◌then◌else◌, inl, inr, ℕ, Bool, true, false, not, List, [], Option, min, length, take, drop, refl, sym, ap, arith}
+use Rattle.std.proofs.Common.{◌≡◌, ◌≢◌, ◌==◌, ◌≤◌, ◌&&◌, ◌++◌, ◌∷◌, ◌∙◌, if◌then◌else◌, inl, inr, ℕ, Bool, true, false, not, List, [], Option, length, take, drop, refl, sym, ap, arith}
 use Rattle.std.specs.Io.KnownBytes.{Appends}
 use Rattle.std.proofs.Math.Seq.{drop-length}
 use Rattle.std.proofs.lemmas.Bool.{false≢true}
@@ -41,7 +41,7 @@ at_rest : (old : Talk) → old.wish ≡ Nothing → unanswered old ≡ old.line 
 at_rest old none = ap (λ (wish : Wish). line_so_far wish old.line ++ old.chunk) none
 
 pub visits_lose_none : VisitsLoseNone
-visits_lose_none false old new before after taken behind same stays = ([], inl refl, ap unanswered same ∙ sym (append-nil (unanswered old)))
+visits_lose_none false old new before after taken behind rests stays = ([], inl refl, ap unanswered rests.0 ∙ sym (append-nil (unanswered old)))
 visits_lose_none true old new before after taken behind (inl writes) stays = ([], inl refl, ap unanswered writes.same ∙ sym (append-nil (unanswered old)))
 visits_lose_none true old new before after taken behind (inr (awaits, inl more)) stays =
     let none = awaited old.wish awaits.0 in
@@ -91,6 +91,6 @@ written count old new taken behind some few left took = record {
     length-take-few within = let is = length-take count old.saying in omega (arith, is, within)
 
 pub visits_write_in_order : VisitsWriteInOrder
-visits_write_in_order false old new before after taken behind same some = ([], inr refl, ap (λ (talk : Talk). talk.saying) (sym same))
+visits_write_in_order false old new before after taken behind rests some = ([], inr (refl, rests.1 some), ap (λ (talk : Talk). talk.saying) (sym rests.0))
 visits_write_in_order true old new before after taken behind (inl writes) some = (writes.octets, inl writes.took, writes.front)
 visits_write_in_order true old new before after taken behind (inr (awaits, listens)) some = absurd (some awaits.1)

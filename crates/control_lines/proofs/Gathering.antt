@@ -1,5 +1,5 @@
 -- Octets of a line.
-use Rattle.std.proofs.Common.{◌≡◌, ◌<◌, ◌+◌, ◌++◌, ℕ, List, [], length, take, drop, refl, sym}
+use Rattle.std.proofs.Common.{◌≡◌, ◌<◌, ◌+◌, ℕ, List, [], length, take, drop, sym}
 use Rattle.std.proofs.lemmas.List.{append-nil, take-append-drop}
 use Rattle.control_lines.specs.Lines.{GathersLine, IsWithin, most_of_a_line}
 use Rattle.control_lines.specs.declared.line_buffer.Heard.TheVariants.{TooLong}

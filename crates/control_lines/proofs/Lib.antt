@@ -1,3 +1,4 @@
 pub mod Chunks
 pub mod Coming
 pub mod Gathering
+pub mod Resting

@@ -1,6 +1,6 @@
 -- What has come of an operator (own).
 use Rattle.std.specs.Prelude.{◌≡◌, ◌≢◌, ◌++◌, ◌⊎◌, ◌∷◌, ℕ, Bool, false, List, [], Option, Some}
-use Rattle.std.specs.Io.KnownBytes.{Appends, Consumes}
+use Rattle.std.specs.Io.KnownBytes.{Appends, Consumes, Keeps}
 use Rattle.control_lines.specs.Lines.{line_feed}
 use Rattle.control_lines.specs.Talks.{Exchanges, SaysIf, shown_wish}
 use Rattle.control_lines.specs.declared.talk.Talk.{Talk}
@@ -33,4 +33,4 @@ AnswersTakeTheirLine = (goes_on : Bool) (octets : List ℕ) (old new : Talk) →
 -- whoever is visited and stays has been written the first of the octets that were said, or none, and the others are still to be
 abbrev pub VisitsWriteInOrder : Type 0
 VisitsWriteInOrder = (has_moved : Bool) (old new : Talk) (before after taken taken_behind : Option (List ℕ)) → Exchanges (Some has_moved) old new before after taken taken_behind → old.saying ≢ []
-    → (octets : List ℕ) × (Appends taken taken_behind octets ⊎ (octets ≡ [])) × (old.saying ≡ octets ++ new.saying)
+    → (octets : List ℕ) × (Appends taken taken_behind octets ⊎ ((octets ≡ []) × Keeps taken taken_behind)) × (old.saying ≡ octets ++ new.saying)

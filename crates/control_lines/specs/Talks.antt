@@ -1,6 +1,6 @@
 -- What becomes of an exchange with an operator at a visit (own).
-use Rattle.std.specs.Prelude.{◌≡◌, ◌≢◌, ◌==◌, ◌≤◌, ◌-◌, ◌&&◌, ◌⊎◌, ◌++◌, ◌∷◌, if◌then◌else◌, ℕ, Bool, true, false, not, nat_le, nat_lt, List, [], Option, None, Some, codes, drop, length, ⊤}
-use Rattle.std.specs.Io.KnownBytes.{Appends, Consumes}
+use Rattle.std.specs.Prelude.{◌≡◌, ◌≢◌, ◌==◌, ◌≤◌, ◌-◌, ◌&&◌, ◌⊎◌, ◌++◌, ◌∷◌, if◌then◌else◌, ℕ, Bool, true, false, not, nat_le, nat_lt, List, [], Option, None, Some, codes, drop, length}
+use Rattle.std.specs.Io.KnownBytes.{Appends, Consumes, Keeps}
 use Rattle.control_lines.specs.Lines.{GathersLine, line_feed}
 use Rattle.control_lines.specs.declared.line_buffer.Heard.{Heard}
 use Rattle.control_lines.specs.declared.line_buffer.Heard.TheVariants.{Part, Whole, TooLong}
@@ -84,20 +84,31 @@ pub record HearsNew (old new : Talk) (before after : Option (List ℕ)) : Type 0
   pub read : Consumes before after came
   pub hears : Hears came old new
 
--- what listening led to, where the operator isn't gone
+-- what listening led to: nothing came, also where the operator is gone, and the stream has left what it had; or octets did
 abbrev pub Listening : Option Bool → Talk → Talk → Option (List ℕ) → Option (List ℕ) → Type 0
-Listening None old new before after = ⊤
-Listening (Some false) old new before after = new ≡ old
+Listening None old new before after = (new ≡ old) × Keeps before after
+Listening (Some false) old new before after = (new ≡ old) × Keeps before after
 Listening (Some true) old new before after = HearsMore old new before after ⊎ HearsNew old new before after
+
+-- what writing led to: nothing went, also where the operator is gone, and the stream has taken nothing; or octets did
+abbrev pub Writing : Option Bool → Talk → Talk → Option (List ℕ) → Option (List ℕ) → Type 0
+Writing None old new taken taken_behind = (new ≡ old) × Keeps taken taken_behind
+Writing (Some false) old new taken taken_behind = (new ≡ old) × Keeps taken taken_behind
+Writing (Some true) old new taken taken_behind = Writes old new taken taken_behind
+
+-- nothing came or went: of what was said the stream has taken nothing, and where all of it is written it has left what it had
+abbrev pub Rests : Talk → Talk → Option (List ℕ) → Option (List ℕ) → Option (List ℕ) → Option (List ℕ) → Type 0
+Rests old new before after taken taken_behind =
+    (new ≡ old) × (old.saying ≢ [] → Keeps taken taken_behind) × (old.saying ≡ [] → Keeps before after)
 
 -- all is written, and a line is to come
 abbrev pub Awaits : Talk → Type 0
 Awaits talk = (awaits_line talk.wish ≡ true) × (talk.saying ≡ []) × (talk.is_leaving ≡ false)
 
--- what an exchange was, where the operator isn't gone: nothing came or went, or octets were written, or read
+-- what an exchange was: nothing came or went, also where the operator is gone, or octets were written, or read
 abbrev pub Exchanges : Option Bool → Talk → Talk → Option (List ℕ) → Option (List ℕ) → Option (List ℕ) → Option (List ℕ) → Type 0
-Exchanges None old new before after taken taken_behind = ⊤
-Exchanges (Some false) old new before after taken taken_behind = new ≡ old
+Exchanges None old new before after taken taken_behind = Rests old new before after taken taken_behind
+Exchanges (Some false) old new before after taken taken_behind = Rests old new before after taken taken_behind
 Exchanges (Some true) old new before after taken taken_behind = Writes old new taken taken_behind ⊎ (Awaits old × Listening (Some true) old new before after)
 
 -- that long ago is too long
@@ -109,8 +120,23 @@ abbrev pub MovedAt : Bool → ℕ → ℕ → ℕ → Type 0
 MovedAt true now at moved = (moved ≡ at) × (is_late at now ≡ false)
 MovedAt false now at moved = moved ≡ now
 
--- a visit at a moment to one who moved last at another: who stays has moved, or not been still for too long
+-- who stays when octets came or went, or none did, and a line goes on or not: unless it only goes on the operator moved just now,
+-- and else it hasn't been still for too long
+abbrev pub Stays : Option Bool → Bool → Bool → ℕ → ℕ → ℕ → Type 0
+Stays None has_moved goes_on now at moved = ((has_moved && not goes_on) ≡ false) × (is_late at now ≡ true)
+Stays (Some stays) has_moved goes_on now at moved = (stays ≡ has_moved) × MovedAt (not (has_moved && not goes_on)) now at moved
+
+-- a line goes on that had begun too long ago
+pub record IsSlow (now at : ℕ) (old new : Talk) (before after taken taken_behind : Option (List ℕ)) : Type 0 where
+  pub begun : (has_begun old && has_begun new) ≡ true
+  pub late : is_late at now ≡ true
+  pub goes_on : Exchanges (Some true) old new before after taken taken_behind
+
+-- a visit at a moment to one who moved last at another: who stays has moved, or not been still for too long; of who goes nothing came
+-- or went, unless it was a line that takes too long
 abbrev pub Visits : Option Bool → ℕ → ℕ → ℕ → Talk → Talk → Option (List ℕ) → Option (List ℕ) → Option (List ℕ) → Option (List ℕ) → Type 0
-Visits None now at moved old new before after taken taken_behind = ⊤
-Visits (Some false) now at moved old new before after taken taken_behind = (new ≡ old) × (moved ≡ at) × (is_late at now ≡ false)
+Visits None now at moved old new before after taken taken_behind =
+    Rests old new before after taken taken_behind ⊎ IsSlow now at old new before after taken taken_behind
+Visits (Some false) now at moved old new before after taken taken_behind =
+    Rests old new before after taken taken_behind × (moved ≡ at) × (is_late at now ≡ false)
 Visits (Some true) now at moved old new before after taken taken_behind = Exchanges (Some true) old new before after taken taken_behind × MovedAt (has_begun old && has_begun new) now at moved

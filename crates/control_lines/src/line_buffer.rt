@@ -81,6 +81,7 @@ impl LineBuffer {
     #[tactic(auto, unfolding(crate::specs::Lines::most_of_a_line))]
     fn put(&mut self, octets: &[u8]) -> bool
         ensures put { OnTrue result (self.new ≡ self.old ++ octets.now) }
+        ensures few { OnTrue result (length self.new ≤ most_of_a_line) }
         ensures many { OnFalse result (most_of_a_line < length self.old + length octets.now) }
         ensures same { OnFalse result (self.new ≡ self.old) }
     {

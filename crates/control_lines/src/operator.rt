@@ -1,6 +1,6 @@
 //! One operator's connection.
-ghost use Rattle.std.specs.Prelude.{◌≡◌, [], IfOk, IfSome, false};
-ghost use Rattle.control_lines.specs.Talks.{Exchanges, Listening, SaysIf, Visits, is_late, shown_wish, silent};
+ghost use Rattle.std.specs.Prelude.{◌≡◌, ◌&&◌, [], IfOk, IfSome, false};
+ghost use Rattle.control_lines.specs.Talks.{Exchanges, Listening, SaysIf, Stays, Visits, Writing, has_begun, is_late, shown_wish, silent};
 
 use crate::talk::{Talk, Wish};
 use std::alloc::{AllocError, Global};
@@ -24,6 +24,7 @@ impl<S: Read + Write + Drop> Operator<S> {
     pub fn new(alloc: Global, stream: S, now: u64) -> Result<Self, AllocError>
         ensures talk { IfOk result (λ operator. operator.talk ≡ silent) }
         ensures moved { IfOk result (λ operator. operator.moved ≡ now) }
+        ensures stream { IfOk result (λ operator. operator.stream ≡ stream) }
     {
         Ok(Operator {
             stream,
@@ -70,11 +71,20 @@ impl<S: Read + Write + Drop> Operator<S> {
     /// Writes what was said as far as it is taken, or else reads where a line is still to come. Answers whether octets came or
     /// went, and nothing where the operator is gone, or has moved nothing for too long: a line has to be whole so many seconds
     /// after its first octet, however many come.
+    #[tactic(auto, using(crate::proofs::Resting::visited))]
     pub fn visit(&mut self, now: u64) -> Option<bool>
         ensures { Visits result now self.old.moved self.new.moved self.old.talk self.new.talk (S.remaining self.old.stream) (S.remaining self.new.stream) (S.contents self.old.stream) (S.contents self.new.stream) }
     {
         let had_begun = self.talk.has_begun();
         let has_moved = self.exchange()?;
+        self.stay(had_begun, has_moved, now)
+    }
+
+    // Answers whether octets came or went, and nothing where that is too long ago, also where the line that had begun goes on.
+    fn stay(&mut self, had_begun: bool, has_moved: bool, now: u64) -> Option<bool>
+        ensures stays { Stays result has_moved (had_begun && has_begun self.old.talk) now self.old.moved self.new.moved }
+        ensures same { (self.new.talk ≡ self.old.talk) × (self.new.stream ≡ self.old.stream) }
+    {
         if has_moved && !(had_begun && self.talk.has_begun()) {
             self.moved = now;
         } else if is_late(self.moved, now) {
@@ -84,6 +94,7 @@ impl<S: Read + Write + Drop> Operator<S> {
     }
 
     // Writes or reads. Answers whether octets came or went, and nothing where the operator is gone, or is to go.
+    #[tactic(auto, using(crate::proofs::Resting::exchanged_by_writing, crate::proofs::Resting::exchanged_by_listening, crate::proofs::Resting::rests))]
     fn exchange(&mut self) -> Option<bool>
         ensures exchanges { Exchanges result self.old.talk self.new.talk (S.remaining self.old.stream) (S.remaining self.new.stream) (S.contents self.old.stream) (S.contents self.new.stream) }
         ensures same { self.new.moved ≡ self.old.moved }
@@ -100,9 +111,9 @@ impl<S: Read + Write + Drop> Operator<S> {
         }
     }
 
-    #[tactic(auto, using(crate::proofs::Coming::written))]
+    #[tactic(auto, using(crate::proofs::Coming::written, crate::proofs::Resting::none_taken))]
     fn write(&mut self) -> Option<bool>
-        ensures exchanges { Exchanges result self.old.talk self.new.talk (S.remaining self.old.stream) (S.remaining self.new.stream) (S.contents self.old.stream) (S.contents self.new.stream) }
+        ensures writes { Writing result self.old.talk self.new.talk (S.contents self.old.stream) (S.contents self.new.stream) }
         ensures same { self.new.moved ≡ self.old.moved }
     {
         match self.stream.write(self.talk.saying.octets()) {

@@ -1,9 +1,17 @@
 -- Places of operators, and what becomes of them (own).
-use Rattle.std.specs.Prelude.{◌≡◌, ◌≢◌, ◌⊎◌, ℕ, Bool, List, [], Option, None, Some, get_or, set, ⊤}
+use Rattle.std.specs.Prelude.{◌≡◌, ◌≢◌, ◌<◌, ◌⊎◌, ℕ, Bool, List, [], Option, None, Some, get_or, replicate, set, ⊤}
 use Rattle.control_lines.specs.Talks.{SaysIf, Visits, shown_wish, silent}
 use Rattle.control_lines.specs.declared.operator.Operator.{Operator}
 use Rattle.control_lines.specs.declared.talk.Wish.{Wish}
 use Rattle.control_lines.specs.declared.talk.Wish.TheVariants.{Nothing}
+
+-- how many operators there may be at once
+unfoldable pub most_operators : ℕ
+most_operators = 16
+
+-- nobody has come yet
+abbrev pub AreFree : {S : Type 0} → List (Option (Operator S)) → Type 0
+AreFree places = places ≡ replicate most_operators None
 
 -- who is at the place of this key, if anybody is
 abbrev pub place_at : {S : Type 0} → List (Option (Operator S)) → ℕ → Option (Operator S)
@@ -49,11 +57,11 @@ IsVisited now (Some old) None = ⊤
 IsVisited now (Some old) (Some new) =
     (has_moved : Bool) × (before after taken behind : Option (List ℕ)) × Visits (Some has_moved) now old.moved new.moved old.talk new.talk before after taken behind
 
--- nobody has come; or one has at this moment, of whom nothing has come yet, to a place where nobody was
+-- nobody has come; or one has at this moment, of whom nothing has come yet, to a place where nobody was, one of so many
 abbrev pub LetsIn : {S : Type 0} → ℕ → List (Option (Operator S)) → List (Option (Operator S)) → Type 0
 LetsIn {S} now old new =
     (new ≡ old)
-    ⊎ ((key : ℕ) × (operator : Operator S) × (place_at old key ≡ None) × (operator.talk ≡ silent) × (operator.moved ≡ now) × (new ≡ set old key (Some operator)))
+    ⊎ ((key : ℕ) × (operator : Operator S) × (key < most_operators) × (place_at old key ≡ None) × (operator.talk ≡ silent) × (operator.moved ≡ now) × (new ≡ set old key (Some operator)))
 
 -- a turn at a moment: one who has come is let in, and then each is visited
 pub record Turns {S : Type 0} (now : ℕ) (old new : List (Option (Operator S))) : Type 0 where

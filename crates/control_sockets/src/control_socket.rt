@@ -1,6 +1,6 @@
 //! A Unix socket and its operators.
-ghost use Rattle.std.specs.Prelude.{◌≡◌, length};
-ghost use Rattle.control_sockets.specs.Places.{HearsAt, IsSaidTo, IsVisited, LetsIn, Turns, line_at, wish_at};
+ghost use Rattle.std.specs.Prelude.{◌≡◌, [], IfOk, OnOk, length, string_bytes};
+ghost use Rattle.control_sockets.specs.Places.{AreFree, HearsAt, IsSaidTo, IsVisited, LetsIn, Turns, line_at, wish_at};
 
 use control_lines::{OPERATORS, Operator, Operators, Wish};
 use std::alloc::{AllocError, AllocGlobal, Global};
@@ -18,6 +18,8 @@ type Place = Option<Operator<UnixStream>>;
 #[derive(Drop)]
 pub struct ControlSocket {
     alloc: Global,
+    // Where it was opened, so that contracts can say so: nothing else writes it.
+    path: String,
     listener: UnixListener,
     places: Vec<Place>,
     is_busy: bool,
@@ -25,11 +27,15 @@ pub struct ControlSocket {
 
 impl ControlSocket {
     /// Listens at this path.
-    pub fn open<R: Net + Files + AllocGlobal>(rt: &R, path: &str) -> io::Result<ControlSocket> {
+    pub fn open<R: Net + Files + AllocGlobal>(rt: &R, path: &str) -> io::Result<ControlSocket>
+        ensures opened { IfOk result (λ socket. string_bytes socket.path ≡ path.now) }
+        ensures free { IfOk result (λ socket. AreFree socket.places.items) }
+    {
         let listener = bound(rt, path)?;
         listener.set_nonblocking(true)?;
         Ok(ControlSocket {
             alloc: rt.alloc(),
+            path: String::from_str(rt.alloc(), path)?,
             listener,
             places: empty_places(rt.alloc())?,
             is_busy: false,
@@ -37,12 +43,16 @@ impl ControlSocket {
     }
 
     // Lets in an operator who has come, where there is a place.
+    #[tactic(auto, unfolding(crate::specs::Places::most_operators))]
     fn let_in(&mut self, now: u64)
         ensures { LetsIn now self.old.places.items self.new.places.items }
     {
         let Some(key) = self.places.iter().position(|place| place.is_none()) else {
             return;
         };
+        if key >= OPERATORS {
+            return;
+        }
         let Ok((stream, _)) = self.listener.accept() else {
             return;
         };
@@ -134,12 +144,24 @@ fn visit(place: &mut Place, now: u64) -> bool
     }
 }
 
-fn empty_places(alloc: Global) -> Result<Vec<Place>, AllocError> {
+fn empty_places(alloc: Global) -> Result<Vec<Place>, AllocError>
+    ensures { IfOk result (λ places. AreFree places.items) }
+{
     let mut places = Vec::new(alloc);
-    for _ in 0..OPERATORS {
-        places.push(None)?;
-    }
+    make_places(&mut places)?;
     Ok(places)
+}
+
+// Makes the places, where there are none.
+#[tactic(auto, unfolding(crate::specs::Places::most_operators))]
+fn make_places(made: &mut Vec<Place>) -> Result<(), AllocError>
+    requires { made.old.items ≡ [] }
+    ensures { OnOk result (AreFree made.new.items) }
+{
+    for _ in 0..OPERATORS {
+        made.push(None)?;
+    }
+    Ok(())
 }
 
 // A listener at the path, in the place of one that a program left that is gone.

@@ -1,5 +1,6 @@
 -- Turns with operators between them, one after another.
-use Rattle.std.proofs.Common.{◌≡◌, ◌≢◌, ◌≤◌, ◌<◌, ◌+◌, ◌++◌, ◌∙◌, ◌⊎◌, ◌||◌, inl, inr, ℕ, zero, suc, Bool, true, false, nat_le, List, [], ◌∷◌, Option, Some, None, MatchOption, OnOk, Result, Ok, Err, codes, length, length-append, append-nil, refl, sym, ap, subst, arith}
+use Rattle.std.proofs.Common.{◌≡◌, ◌≢◌, ◌≤◌, ◌<◌, ◌+◌, ◌++◌, ◌∙◌, ◌⊎◌, ◌||◌, inl, inr, ℕ, zero, suc, Bool, true, false, nat_le, List, [], ◌∷◌, Option, Some, None, MatchOption, OnOk, Result, Ok, Err, codes, drop, get_or, set, length, length-append, append-nil, refl, sym, ap, subst, arith}
+use Rattle.std.proofs.lemmas.List.{drop_all, drop_more}
 use Rattle.std.specs.Result.{IsErrAnd}
 use Rattle.std.specs.declared.net.socket_addr.SocketAddr.{SocketAddr}
 use Rattle.bgp_conf.specs.declared.command.Command.{Command}
@@ -19,12 +20,12 @@ use Rattle.speaker_turns.specs.Obeying.{Obeys}
 use Rattle.speaker_turns.specs.Turns.{TakesTurn, Turns, with_remote}
 use Rattle.speaker_turns.specs.declared.end.End.{End}
 use Rattle.speaker_turns.specs.declared.end.End.TheVariants.{Peer}
-use Rattle.speaker_desk.specs.Answering.{AnswersLine, AnswersText, AreObeyed, ClearsSlot, Commands, FollowsAnswer, IsAt, IsObeyed, IsObeyedIf, IsTextOf, IsToldWhere, Stops, StopsBelow, added_by}
-use Rattle.speaker_desk.specs.Attended.{AttendsBelow, AttendsTurns, AttendsWish, EndsRounds, Fails, Hall, IsStopped, LetsFirst, LetsIf, LetsMany, LetsThrough, TakesRound, TakesRounds}
+use Rattle.speaker_desk.specs.Answering.{AnswersLine, AnswersText, ClearsSlot, Commands, FollowsAnswer, IsAt, IsCleared, IsObeyed, IsTextOf, IsToldWhere, Stops, StopsBelow, added_by, settled}
+use Rattle.speaker_desk.specs.Attended.{AttendsBelow, AttendsTurns, AttendsWish, BeginsBelow, BeginsIf, EnablesAll, EndsRounds, Fails, Hall, IsStopped, LetsIf, LetsThrough, TakesRound, TakesRounds, may_begin}
 use Rattle.speaker_desk.specs.Moves.{AreOperators, AreWell, AsksFor, Move, MovesAll, TakesMoves, moments_in}
 use Rattle.speaker_desk.specs.Moves.Move.{Turned, Stopped, Obeyed, Let, Placed}
 use Rattle.speaker_desk.specs.Standing.{DeskState, Standing}
-use Rattle.speaker_desk.specs.Waiting.{decided_by, first_of, is_synced, opens, without}
+use Rattle.speaker_desk.specs.Waiting.{decided_by, is_synced, none_waits, opens, without}
 
 -- moves behind moves
 moves_on : (one two : List Move) (old mid new : Turns) → MovesAll one old mid → MovesAll two mid new → MovesAll (one ++ two) old new
@@ -99,17 +100,10 @@ obeyed_moves : (line : List ℕ) (command : Command) (old new : Standing) → As
 obeyed_moves line command old new asks is =
     moves_both old.served is.mid new.served (moves_command line command old.served is.result is.mid asks is.obeys) (told_if_moves is.result command is.mid old new is.follows)
 
-obeyed_if_moves : (line : List ℕ) (result : Result Report Refusal) (command : Command) (old new : Standing) → AsksFor line command → IsObeyedIf result command old new → AsksMoves old.served new.served
-obeyed_if_moves line (Ok report) command old new asks is = obeyed_moves line command old new asks is
-obeyed_if_moves line (Err why) command old new asks same = moves_none old.served new.served (ap (λ (s : Standing). s.served) same)
-
-clear_moves : (line slot : List ℕ) (old new : Standing) → words_in line ≡ codes "clear" ∷ slot ∷ [] → ClearsSlot slot old new → AsksMoves old.served new.served
-clear_moves line slot old new words (inl same) = moves_none old.served new.served (ap (λ (s : Standing). s.served) same)
-clear_moves line slot old new words (inr clears) =
-    let are = clears.4 in
-    moves_both old.served are.1 new.served
-    (moves_command line clears.0 old.served are.0 are.1 (inr (inl (slot, words, inl clears.2))) are.2)
-    (obeyed_if_moves line are.0 clears.1 (record old { served = are.1 }) new (inr (inl (slot, words, inr clears.3))) are.3)
+clear_moves : (line word : List ℕ) (old new : Standing) → words_in line ≡ codes "clear" ∷ word ∷ [] → ClearsSlot word old new → AsksMoves old.served new.served
+clear_moves line word old new words (inl same) = moves_none old.served new.served (ap (λ (s : Standing). s.served) same)
+clear_moves line word old new words (inr clears) =
+    let is = clears.2 in moves_command line (Disable clears.0) old.served is.0 new.served (inr (inl (word, words, clears.1))) is.1
 
 stop_moves : (count : ℕ) (old new : Turns) → StopsBelow count old new → AsksMoves old new
 stop_moves zero old new same = moves_none old new same
@@ -125,18 +119,22 @@ text_moves : (text : List ℕ) (now : ℕ) (old new : Standing) → AnswersText 
 text_moves text now old new (inl stops) = stop_moves 64 old.served new.served stops.1.all
 text_moves text now old new (inr says) = says_moves text old new says.1
 
-let_moves : (first : Option ℕ) (old new : Standing) → LetsFirst first old new → AsksMoves old.served new.served
-let_moves None old new same = moves_none old.served new.served (ap (λ (s : Standing). s.served) same)
-let_moves (Some slot) old new lets = moves_let slot old.served lets.0 new.served lets.1
-
-lets_moves : (count : ℕ) (old new : Standing) → LetsMany count old new → AsksMoves old.served new.served
-lets_moves zero old new same = moves_none old.served new.served (ap (λ (s : Standing). s.served) same)
-lets_moves (suc count) old new lets =
-    moves_both old.served (lets.0).served new.served (lets_moves count old lets.0 lets.1) (let_moves (first_of (lets.0).desk.waiting.slots) lets.0 new lets.2)
+enabled_moves : (slots : List ℕ) (old new : Turns) → EnablesAll slots old new → AsksMoves old new
+enabled_moves [] old new same = moves_none old new same
+enabled_moves (slot ∷ slots) old new lets = moves_both old lets.1 new (moves_let slot old lets.0 lets.1 lets.2) (enabled_moves slots lets.1 new lets.3)
 
 through_moves : (opens : Bool) (old new : Standing) → LetsIf opens old new → AsksMoves old.served new.served
 through_moves false old new same = moves_none old.served new.served (ap (λ (s : Standing). s.served) same)
-through_moves true old new lets = lets_moves 64 (record old { desk = record old.desk { waiting = record old.desk.waiting { is_open = true } } }) new lets
+through_moves true old new lets = enabled_moves old.desk.waiting.slots old.served new.served lets.0
+
+begin_moves : (begins : Bool) (slot : ℕ) (old new : Standing) → BeginsIf begins slot old new → AsksMoves old.served new.served
+begin_moves false slot old new same = moves_none old.served new.served (ap (λ (s : Standing). s.served) same)
+begin_moves true slot old new begins = moves_let slot old.served begins.0 new.served begins.1
+
+begun_moves : (count : ℕ) (old new : Standing) → BeginsBelow count old new → AsksMoves old.served new.served
+begun_moves zero old new same = moves_none old.served new.served (ap (λ (s : Standing). s.served) same)
+begun_moves (suc slot) old new begins =
+    moves_both old.served (begins.0).served new.served (begun_moves slot old begins.0 begins.1) (begin_moves (may_begin slot begins.0) slot begins.0 new begins.2)
 
 -- moves whose turns are at these moments, and go well
 record MovesOf (moments : List ℕ) (old new : Turns) : Type 0 where
@@ -186,8 +184,9 @@ module _ {P : Type 0} (wish : P → ℕ → Wish) (line : P → ℕ → List ℕ
   round_moves : (now : ℕ) (old new : Hall P) → TakesRound wish line turns hears now old new → MovesOf (now ∷ []) old.stand.served new.stand.served
   round_moves now old new round =
       let lets = through_moves (opens now (cache_state_of (round.turned).speaker.cache) old.stand.desk.waiting) (record old.stand { served = round.turned }) round.let_through round.lets in
-      let attends = attended_moves 16 now (record { stand = round.let_through; operators = round.visited }) new round.attends in
-      let both = moves_both round.turned (round.let_through).served new.stand.served lets attends in
+      let begins = begun_moves 64 round.let_through round.begun round.begins in
+      let attends = attended_moves 16 now (record { stand = round.begun; operators = round.visited }) new round.attends in
+      let both = moves_both round.turned (round.let_through).served new.stand.served lets (moves_both (round.let_through).served (round.begun).served new.stand.served begins attends) in
       record {
         moves = Turned now ∷ both.moves;
         made = (round.turned, round.turn, both.made);
@@ -266,10 +265,10 @@ module _ {P : Type 0} (wish : P → ℕ → Wish) (line : P → ℕ → List ℕ
   pub attends_all : (count now : ℕ) (old new : Hall P) → count ≡ 16 → AttendsBelow wish line turns hears count now old new → AttendsBelow wish line turns hears 16 now old new
   attends_all count now old new all below = subst (λ (n : ℕ). AttendsBelow wish line turns hears n now old new) all below
 
-  pub takes_round : (now : ℕ) (old : Hall P) (turned : Turns) (noted : DeskState) (visited : P) (let_through : Standing) (attended : Hall P) (waited : Turns) → TakesTurn now old.stand.served (Ok tt) turned → noted ≡ old.stand.desk → turns now old.operators visited
-      → LetsThrough now (record { served = turned; desk = noted }) let_through → AttendsBelow wish line turns hears 16 now (record { stand = let_through; operators = visited }) attended → waited ≡ attended.stand.served
+  pub takes_round : (now : ℕ) (old : Hall P) (turned : Turns) (noted : DeskState) (visited : P) (let_through begun : Standing) (attended : Hall P) (waited : Turns) → TakesTurn now old.stand.served (Ok tt) turned → noted ≡ old.stand.desk → turns now old.operators visited
+      → LetsThrough now (record { served = turned; desk = noted }) let_through → BeginsBelow 64 let_through begun → AttendsBelow wish line turns hears 16 now (record { stand = begun; operators = visited }) attended → waited ≡ attended.stand.served
       → TakesRound wish line turns hears now old (record { stand = record { served = waited; desk = attended.stand.desk }; operators = attended.operators })
-  takes_round now old turned noted visited let_through attended waited turn same visits lets attends rests =
+  takes_round now old turned noted visited let_through begun attended waited turn same visits lets begins attends rests =
       subst (λ (t : Turns). TakesRound wish line turns hears now old (record { stand = record { served = t; desk = attended.stand.desk }; operators = attended.operators })) (sym rests)
       (record {
         turned = turned;
@@ -278,6 +277,8 @@ module _ {P : Type 0} (wish : P → ℕ → Wish) (line : P → ℕ → List ℕ
         visits = visits;
         let_through = let_through;
         lets = subst (λ (d : DeskState). LetsThrough now (record { served = turned; desk = d }) let_through) same lets;
+        begun = begun;
+        begins = begins;
         attends = attends;
       })
 
@@ -352,17 +353,11 @@ told_some remotes command at remote old new is there told = subst (λ (o : Optio
 pub told_none : (remotes : List (ℕ × SocketAddr)) (command : Command) (old new : Turns) → None ≡ added_by command → new ≡ old → IsToldWhere remotes command old new
 told_none remotes command old new is same = subst (λ (o : Option (ℕ × ℕ)). MatchOption o (new ≡ old) (λ a. (there : SocketAddr) × IsAt remotes a there × (new ≡ with_remote (Peer a.0) there old))) is same
 
-pub obeys_ok : (command : Command) (report : Report) (old : Standing) (mid : Turns) (new : Standing) → Obeys command old.served (Ok report) mid → IsToldWhere old.desk.remotes command mid new.served → new.desk ≡ record old.desk { waiting = without (decided_by command) old.desk.waiting } → IsObeyed command old new
+pub obeys_ok : (command : Command) (report : Report) (old : Standing) (mid : Turns) (new : Standing) → Obeys command old.served (Ok report) mid → IsToldWhere old.desk.remotes command mid new.served → new.desk ≡ settled (decided_by command) old.desk → IsObeyed command old new
 obeys_ok command report old mid new obeys told decides = record { result = Ok report; mid = mid; obeys = obeys; follows = (told, decides) }
 
 pub obeys_err : (command : Command) (why : Refusal) (old : Standing) (mid : Turns) (new : Standing) → Obeys command old.served (Err why) mid → new ≡ record old { served = mid } → IsObeyed command old new
 obeys_err command why old mid new obeys same = record { result = Err why; mid = mid; obeys = obeys; follows = same }
-
-pub both_ok : (first second : Command) (report : Report) (old : Standing) (mid : Turns) (new : Standing) → Obeys first old.served (Ok report) mid → IsObeyed second (record old { served = mid }) new → AreObeyed first second old new
-both_ok first second report old mid new obeys obeyed = (Ok report, mid, obeys, obeyed)
-
-pub both_err : (first second : Command) (why : Refusal) (old : Standing) (mid : Turns) (new : Standing) → Obeys first old.served (Err why) mid → new ≡ record old { served = mid } → AreObeyed first second old new
-both_err first second why old mid new obeys same = (Err why, mid, obeys, same)
 
 pub commands_none : (text : List ℕ) (old new : Standing) → new ≡ old → Commands text old new
 commands_none text old new same = inl same
@@ -370,14 +365,20 @@ commands_none text old new same = inl same
 pub commands_says : (text : List ℕ) (command : Command) (old new : Standing) → Says (words_in text) command → IsObeyed command old new → Commands text old new
 commands_says text command old new says obeyed = inr (inl (command, says, obeyed))
 
-pub commands_clears : (text slot : List ℕ) (old new : Standing) → words_in text ≡ codes "clear" ∷ slot ∷ [] → ClearsSlot slot old new → Commands text old new
-commands_clears text slot old new words clears = inr (inr (slot, words, clears))
+pub commands_clears : (text word : List ℕ) (old new : Standing) → words_in text ≡ codes "clear" ∷ word ∷ [] → ClearsSlot word old new → Commands text old new
+commands_clears text word old new words clears = inr (inr (word, words, clears))
 
-pub clears_both : (slot : List ℕ) (disable enable : Command) (old new : Standing) → Says (codes "disable" ∷ slot ∷ []) disable → Says (codes "enable" ∷ slot ∷ []) enable → AreObeyed disable enable old new → ClearsSlot slot old new
-clears_both slot disable enable old new first second are = inr (disable, enable, first, second, are)
+pub clears_one : (word : List ℕ) (slot : ℕ) (old new : Standing) → Says (codes "disable" ∷ word ∷ []) (Disable slot) → IsCleared slot old new → ClearsSlot word old new
+clears_one word slot old new says clears = inr (slot, says, clears)
 
-pub clears_none : (slot : List ℕ) (old new : Standing) → new ≡ old → ClearsSlot slot old new
-clears_none slot old new same = inl same
+pub clears_none : (word : List ℕ) (old new : Standing) → new ≡ old → ClearsSlot word old new
+clears_none word old new same = inl same
+
+pub cleared_ok : (slot : ℕ) (report : Report) (old new : Standing) → Obeys (Disable slot) old.served (Ok report) new.served → new.desk ≡ record old.desk { waiting = without (Some slot) old.desk.waiting; again = set old.desk.again slot true } → IsCleared slot old new
+cleared_ok slot report old new obeys same = (Ok report, obeys, same)
+
+pub cleared_err : (slot : ℕ) (why : Refusal) (old new : Standing) → Obeys (Disable slot) old.served (Err why) new.served → new.desk ≡ old.desk → IsCleared slot old new
+cleared_err slot why old new obeys same = (Err why, obeys, same)
 
 pub line_stops : (line text : List ℕ) (now : ℕ) (old new : Standing) → IsTextOf line text → text ≡ codes "stop" → Stops now old new → AnswersLine line now old new
 line_stops line text now old new is stop stops = (text, is, inl (stop, stops))
@@ -390,24 +391,17 @@ line_none line text now old new is other same = (text, is, inr (other, inl same)
 
 -- ---- peers that wait
 
-abbrev opened : Standing → Standing
-opened old = record old { desk = record old.desk { waiting = record old.desk.waiting { is_open = true } } }
+pub enables_more : (slots : List ℕ) (index : ℕ) (slot : ℕ) (result : Result Report Refusal) (old mid next : Turns) → index < length slots → Obeys (Enable (get_or slots index slot)) mid result next
+    → ((new : Turns) → EnablesAll (drop index slots) mid new → EnablesAll slots old new) → (new : Turns) → EnablesAll (drop (index + 1) slots) next new → EnablesAll slots old new
+enables_more slots index slot result old mid next within obeys so_far new others =
+    so_far new (subst (λ (left : List ℕ). EnablesAll left mid new) (sym (drop_more slots index slot within)) (result, next, obeys, others))
 
-pub lets_first : (old : Standing) → LetsMany 0 old old
-lets_first old = refl
+pub enables_all : (slots : List ℕ) (index : ℕ) (old mid : Turns) → length slots ≤ index → ((new : Turns) → EnablesAll (drop index slots) mid new → EnablesAll slots old new) → EnablesAll slots old mid
+enables_all slots index old mid past so_far = so_far mid (subst (λ (left : List ℕ). EnablesAll left mid mid) (sym (drop_all index slots past)) refl)
 
-pub lets_more : (count : ℕ) (old mid new : Standing) → LetsMany count old mid → LetsFirst (first_of mid.desk.waiting.slots) mid new → LetsMany (count + 1) old new
-lets_more count old mid new many first = subst (λ (n : ℕ). LetsMany n old new) one (lets_suc count old mid new many first)
-  where
-    one : suc count ≡ count + 1
-    one = omega arith
-
-    lets_suc : (count : ℕ) (old mid new : Standing) → LetsMany count old mid → LetsFirst (first_of mid.desk.waiting.slots) mid new → LetsMany (suc count) old new
-    lets_suc count old mid new many first = (mid, many, first)
-
-pub lets_all : (count : ℕ) (opens : Bool) (old new : Standing) → opens ≡ true → count ≡ 64 → LetsMany count (opened old) new → LetsIf opens old new
-lets_all count false old new wrong all many = absurd cc
-lets_all count true old new is all many = subst (λ (n : ℕ). LetsMany n (opened old) new) all many
+pub lets_all : (opens : Bool) (old new : Standing) → opens ≡ true → EnablesAll old.desk.waiting.slots old.served new.served → new.desk ≡ record old.desk { waiting = record (none_waits old.desk.waiting) { is_open = opens } } → LetsIf opens old new
+lets_all false old new wrong enables same = absurd cc
+lets_all true old new is enables same = (enables, same)
 
 shut : (b rest : Bool) → (b || rest) ≡ false → (b || rest) ≡ b
 shut true rest wrong = absurd cc
@@ -438,3 +432,34 @@ stops_more slot result old mid new below obeys = subst (λ (n : ℕ). StopsBelow
 
 pub stops_all : (count : ℕ) (old new : Turns) → count ≡ 64 → StopsBelow count old new → StopsBelow 64 old new
 stops_all count old new all below = subst (λ (n : ℕ). StopsBelow n old new) all below
+
+-- ---- sessions that begin again
+
+pub begins_none : (slot : ℕ) (old : Standing) → may_begin slot old ≡ false → BeginsIf (may_begin slot old) slot old old
+begins_none slot old not_yet = by_test (may_begin slot old) not_yet
+  where
+    by_test : (b : Bool) → b ≡ false → BeginsIf b slot old old
+    by_test true wrong = absurd cc
+    by_test false is = refl
+
+pub begins_one : (slot : ℕ) (result : Result Report Refusal) (old new : Standing) → may_begin slot old ≡ true → Obeys (Enable slot) old.served result new.served → new.desk ≡ record old.desk { again = set old.desk.again slot false } → BeginsIf (may_begin slot old) slot old new
+begins_one slot result old new may obeys same = by_test (may_begin slot old) may
+  where
+    by_test : (b : Bool) → b ≡ true → BeginsIf b slot old new
+    by_test true is = (result, obeys, same)
+    by_test false wrong = absurd cc
+
+pub begins_first : (old : Standing) → BeginsBelow 0 old old
+begins_first old = refl
+
+pub begins_more : (slot : ℕ) (old mid new : Standing) → BeginsBelow slot old mid → BeginsIf (may_begin slot mid) slot mid new → BeginsBelow (slot + 1) old new
+begins_more slot old mid new below begins = subst (λ (n : ℕ). BeginsBelow n old new) one (begins_suc slot old mid new below begins)
+  where
+    one : suc slot ≡ slot + 1
+    one = omega arith
+
+    begins_suc : (slot : ℕ) (old mid new : Standing) → BeginsBelow slot old mid → BeginsIf (may_begin slot mid) slot mid new → BeginsBelow (suc slot) old new
+    begins_suc slot old mid new below begins = (mid, below, begins)
+
+pub begins_all : (count : ℕ) (old new : Standing) → count ≡ 64 → BeginsBelow count old new → BeginsBelow 64 old new
+begins_all count old new all below = subst (λ (n : ℕ). BeginsBelow n old new) all below

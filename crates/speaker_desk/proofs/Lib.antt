@@ -1,4 +1,5 @@
 pub mod Attended
 pub mod Listening
 pub mod Moving
+pub mod Rounds
 pub mod Texts

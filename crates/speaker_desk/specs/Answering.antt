@@ -1,5 +1,5 @@
 -- What a line makes of a loop (own): it hands in what it asks for, once, or changes nothing.
-use Rattle.std.specs.Prelude.{◌≡◌, ◌≢◌, ◌⊎◌, ◌++◌, ℕ, zero, suc, List, [], ◌∷◌, Contains, Option, Some, None, MatchOption, Result, Ok, Err, codes}
+use Rattle.std.specs.Prelude.{◌≡◌, ◌≢◌, ◌⊎◌, ◌++◌, ℕ, zero, suc, true, List, [], ◌∷◌, Contains, Option, Some, None, MatchOption, Result, Ok, Err, codes, set}
 use Rattle.std.specs.Net.Addr.{IsIpv4OfBits}
 use Rattle.std.specs.Net.Socket.{socket_ip, socket_port}
 use Rattle.std.specs.declared.net.ipv4_addr.Ipv4Addr.{Ipv4Addr}
@@ -14,7 +14,8 @@ use Rattle.speaker.specs.declared.event.Report.{Report}
 use Rattle.speaker_turns.specs.Obeying.{Obeys}
 use Rattle.speaker_turns.specs.Turns.{Turns, with_remote}
 use Rattle.speaker_turns.specs.declared.end.End.TheVariants.{Peer}
-use Rattle.speaker_desk.specs.Standing.{Standing}
+use Rattle.speaker_desk.specs.Restarts.{none_of, not_again}
+use Rattle.speaker_desk.specs.Standing.{DeskState, Standing}
 use Rattle.speaker_desk.specs.Waiting.{decided_by, none_waits, without}
 
 -- the slot and the address of the peer that a command configures
@@ -43,10 +44,12 @@ abbrev pub IsToldWhere : List (ℕ × SocketAddr) → Command → Turns → Turn
 IsToldWhere remotes command old new =
     MatchOption (added_by command) (new ≡ old) (λ added. (remote : SocketAddr) × IsAt remotes added remote × (new ≡ with_remote (Peer added.0) remote old))
 
--- where a command was obeyed the peer whose session it decides on waits no longer
+-- behind a command that was obeyed the peer whose session it decides on neither waits nor is to begin again any longer
+abbrev pub settled : Option ℕ → DeskState → DeskState
+settled slot desk = record desk { waiting = without slot desk.waiting; again = not_again slot desk.again }
+
 abbrev pub FollowsAnswer : Result Report Refusal → Command → Turns → Standing → Standing → Type 0
-FollowsAnswer (Ok report) command mid old new =
-    IsToldWhere old.desk.remotes command mid new.served × (new.desk ≡ record old.desk { waiting = without (decided_by command) old.desk.waiting })
+FollowsAnswer (Ok report) command mid old new = IsToldWhere old.desk.remotes command mid new.served × (new.desk ≡ settled (decided_by command) old.desk)
 FollowsAnswer (Err why) command mid old new = new ≡ record old { served = mid }
 
 -- the command is handed in once
@@ -56,36 +59,34 @@ pub record IsObeyed (command : Command) (old new : Standing) : Type 0 where
   pub obeys : Obeys command old.served result mid
   pub follows : FollowsAnswer result command mid old new
 
--- and behind it, where it is obeyed, another one
-abbrev pub IsObeyedIf : Result Report Refusal → Command → Standing → Standing → Type 0
-IsObeyedIf (Ok report) command old new = IsObeyed command old new
-IsObeyedIf (Err why) command old new = new ≡ old
+-- the peer of a slot is disabled, once, and where that is obeyed it doesn't wait, and its session is to begin again
+abbrev pub cleared : Result Report Refusal → ℕ → DeskState → DeskState
+cleared (Ok report) slot desk = record desk { waiting = without (Some slot) desk.waiting; again = set desk.again slot true }
+cleared (Err why) slot desk = desk
 
-abbrev pub AreObeyed : Command → Command → Standing → Standing → Type 0
-AreObeyed first second old new = (result : Result Report Refusal) × (mid : Turns) × Obeys first old.served result mid × IsObeyedIf result second (record old { served = mid }) new
+abbrev pub IsCleared : ℕ → Standing → Standing → Type 0
+IsCleared slot old new = (result : Result Report Refusal) × Obeys (Disable slot) old.served result new.served × (new.desk ≡ cleared result slot old.desk)
 
--- the peer of the slot that the word names is disabled and then enabled, or nothing changes
+-- that of the slot that the word names is, or nothing changes
 abbrev pub ClearsSlot : List ℕ → Standing → Standing → Type 0
-ClearsSlot slot old new =
-    (new ≡ old)
-    ⊎ ((disable enable : Command) × Says (codes "disable" ∷ slot ∷ []) disable × Says (codes "enable" ∷ slot ∷ []) enable × AreObeyed disable enable old new)
+ClearsSlot word old new = (new ≡ old) ⊎ ((slot : ℕ) × Says (codes "disable" ∷ word ∷ []) (Disable slot) × IsCleared slot old new)
 
 -- the peers of the slots below this one are disabled, in rising order
 abbrev pub StopsBelow : ℕ → Turns → Turns → Type 0
 StopsBelow zero old new = new ≡ old
 StopsBelow (suc slot) old new = (mid : Turns) × StopsBelow slot old mid × ((result : Result Report Refusal) × Obeys (Disable slot) mid result new)
 
--- all are, none waits any more, and the program is to stop
+-- all are, none waits or is to begin again any more, and the program is to stop
 pub record Stops (now : ℕ) (old new : Standing) : Type 0 where
   pub all : StopsBelow 64 old.served new.served
-  pub noted : new.desk ≡ record old.desk { waiting = none_waits old.desk.waiting; stopped = Some now }
+  pub noted : new.desk ≡ record old.desk { waiting = none_waits old.desk.waiting; again = none_of old.desk.again; stopped = Some now }
 
 -- the text of a line says a command, which is handed in; or it clears a slot; or nothing changes
 abbrev pub Commands : List ℕ → Standing → Standing → Type 0
 Commands text old new =
     (new ≡ old)
     ⊎ (((command : Command) × Says (words_in text) command × IsObeyed command old new)
-    ⊎ ((slot : List ℕ) × (words_in text ≡ codes "clear" ∷ slot ∷ []) × ClearsSlot slot old new))
+    ⊎ ((word : List ℕ) × (words_in text ≡ codes "clear" ∷ word ∷ []) × ClearsSlot word old new))
 
 -- it stops the program, if it says so, and else does no more than this
 abbrev pub AnswersText : List ℕ → ℕ → Standing → Standing → Type 0

@@ -1,5 +1,5 @@
 -- Turns with operators between them.
-use Rattle.std.specs.Prelude.{◌≡◌, ◌<◌, ◌⊎◌, ℕ, zero, suc, Bool, true, false, List, [], ◌∷◌, Option, None, Some, Result, Ok, Err, length}
+use Rattle.std.specs.Prelude.{◌≡◌, ◌<◌, ◌⊎◌, ◌&&◌, ℕ, zero, suc, Bool, true, false, List, [], ◌∷◌, Option, None, Some, Result, Ok, Err, get_or, length, set}
 use Rattle.bgp_conf.specs.declared.command.Command.TheVariants.{Enable}
 use Rattle.bgp_conf.specs.declared.refusal.Refusal.{Refusal}
 use Rattle.clocks.specs.Moments.{NeverGoBack, told_behind}
@@ -9,31 +9,47 @@ use Rattle.speaker.specs.Shown.{cache_state_of}
 use Rattle.speaker.specs.declared.event.Report.{Report}
 use Rattle.wires.specs.declared.fault.LoopFault.TheVariants.{Accept}
 use Rattle.speaker_turns.specs.Obeying.{Obeys}
+use Rattle.speaker_turns.specs.Sessions.{transport_of}
 use Rattle.speaker_turns.specs.Turns.{TakesTurn, Turns}
+use Rattle.speaker_turns.specs.declared.end.End.TheVariants.{Peer}
 use Rattle.speaker_desk.specs.Answering.{AnswersLine}
+use Rattle.speaker_desk.specs.Restarts.{is_gone}
 use Rattle.speaker_desk.specs.Standing.{Standing}
-use Rattle.speaker_desk.specs.Waiting.{first_of, opens, passed}
+use Rattle.speaker_desk.specs.Waiting.{none_waits, opens}
 
 -- ---- peers that wait
 
--- the first that waits, if one does, is enabled
-abbrev pub LetsFirst : Option ℕ → Standing → Standing → Type 0
-LetsFirst None old new = new ≡ old
-LetsFirst (Some slot) old new =
-    (result : Result Report Refusal) × Obeys (Enable slot) old.served result new.served × (new.desk ≡ record old.desk { waiting = passed result old.desk.waiting })
+-- the peers of these slots are enabled, each once, in this order
+abbrev pub EnablesAll : List ℕ → Turns → Turns → Type 0
+EnablesAll [] old new = new ≡ old
+EnablesAll (slot ∷ slots) old new = (result : Result Report Refusal) × (mid : Turns) × Obeys (Enable slot) old result mid × EnablesAll slots mid new
 
--- and so on, so many times
-abbrev pub LetsMany : ℕ → Standing → Standing → Type 0
-LetsMany zero old new = new ≡ old
-LetsMany (suc count) old new = (mid : Standing) × LetsMany count old mid × LetsFirst (first_of mid.desk.waiting.slots) mid new
-
--- all are where they may go, and none is where they may not
+-- where they may go each that waits is, and none waits any more; where they may not, all wait on
 abbrev pub LetsIf : Bool → Standing → Standing → Type 0
 LetsIf false old new = new ≡ old
-LetsIf true old new = LetsMany 64 (record old { desk = record old.desk { waiting = record old.desk.waiting { is_open = true } } }) new
+LetsIf true old new =
+    EnablesAll old.desk.waiting.slots old.served new.served
+    × (new.desk ≡ record old.desk { waiting = record (none_waits old.desk.waiting) { is_open = true } })
 
 abbrev pub LetsThrough : ℕ → Standing → Standing → Type 0
 LetsThrough now old new = LetsIf (opens now (cache_state_of old.served.speaker.cache) old.desk.waiting) old new
+
+-- ---- sessions that begin again
+
+-- a session is to, and its connection is gone
+abbrev pub may_begin : ℕ → Standing → Bool
+may_begin slot stand = get_or stand.desk.again slot false && is_gone (transport_of stand.served.speaker (Peer slot))
+
+-- so its peer is enabled, once, and it isn't to any more; else nothing happens
+abbrev pub BeginsIf : Bool → ℕ → Standing → Standing → Type 0
+BeginsIf false slot old new = new ≡ old
+BeginsIf true slot old new =
+    (result : Result Report Refusal) × Obeys (Enable slot) old.served result new.served × (new.desk ≡ record old.desk { again = set old.desk.again slot false })
+
+-- those of the slots below this one, in rising order
+abbrev pub BeginsBelow : ℕ → Standing → Standing → Type 0
+BeginsBelow zero old new = new ≡ old
+BeginsBelow (suc slot) old new = (mid : Standing) × BeginsBelow slot old mid × BeginsIf (may_begin slot mid) slot mid new
 
 -- ---- operators
 
@@ -62,8 +78,8 @@ module _ {P : Type 0} (wish : P → ℕ → Wish) (line : P → ℕ → List ℕ
   AttendsBelow zero now old new = new ≡ old
   AttendsBelow (suc key) now old new = (mid : Hall P) × AttendsBelow key now old mid × AttendsWish (wish mid.operators key) key now mid new
 
-  -- a round at a moment: a turn goes well, operators are visited, peers that waited are let through where they may go, and each operator
-  -- is attended to
+  -- a round at a moment: a turn goes well, operators are visited, peers that waited are let through where they may go, sessions begin
+  -- again whose connections are gone, and each operator is attended to
   pub record TakesRound (now : ℕ) (old new : Hall P) : Type 0 where
     pub turned : Turns
     pub turn : TakesTurn now old.stand.served (Ok tt) turned
@@ -71,7 +87,9 @@ module _ {P : Type 0} (wish : P → ℕ → Wish) (line : P → ℕ → List ℕ
     pub visits : turns now old.operators visited
     pub let_through : Standing
     pub lets : LetsThrough now (record old.stand { served = turned }) let_through
-    pub attends : AttendsBelow 16 now (record { stand = let_through; operators = visited }) new
+    pub begun : Standing
+    pub begins : BeginsBelow 64 let_through begun
+    pub attends : AttendsBelow 16 now (record { stand = begun; operators = visited }) new
 
   abbrev pub TakesRounds : List ℕ → Hall P → Hall P → Type 0
   TakesRounds [] old new = new ≡ old

@@ -14,16 +14,16 @@ use Rattle.speaker_turns.specs.Obeying.{Obeys}
 use Rattle.speaker_turns.specs.Turns.{TakesTurn, Turns, with_remote}
 use Rattle.speaker_turns.specs.declared.end.End.{End}
 
--- a line asks for the command that its words say; one that clears a slot for those that `disable` and `enable` say of it; and one
--- that stops the program for the end of each session
+-- a line asks for the command that its words say; one that clears a slot for that which `disable` says of it; and one that stops the
+-- program for the end of each session
 abbrev pub AsksFor : List ℕ → Command → Type 0
 AsksFor line command =
     Says (words_in line) command
-    ⊎ (((slot : List ℕ) × (words_in line ≡ codes "clear" ∷ slot ∷ []) × (Says (codes "disable" ∷ slot ∷ []) command ⊎ Says (codes "enable" ∷ slot ∷ []) command))
+    ⊎ (((word : List ℕ) × (words_in line ≡ codes "clear" ∷ word ∷ []) × Says (codes "disable" ∷ word ∷ []) command)
     ⊎ ((line ≡ codes "stop") × (slot : ℕ) × (command ≡ Disable slot)))
 
 -- what happens to a loop: a turn at a moment, which goes well, or can't accept; a command that an operator's line asks for; a peer that
--- waited is enabled; or the loop is told where a session's other side is
+-- waited, or whose session is to begin again, is enabled; or the loop is told where a session's other side is
 pub data Move : Type 0 where
   Turned : (now : ℕ) → Move
   Stopped : (now : ℕ) → Move

@@ -1,10 +1,7 @@
 -- Peers that wait for payloads (own).
-use Rattle.std.specs.Prelude.{◌≡◌, ◌==◌, ◌||◌, ℕ, Bool, true, false, List, [], ◌∷◌, Option, None, Some, Result, Ok, Err, drop, filter, if◌then◌else◌, nat_le, not}
+use Rattle.std.specs.Prelude.{◌==◌, ◌||◌, ℕ, Bool, true, false, List, [], Option, None, Some, filter, nat_le, not}
 use Rattle.bgp_conf.specs.declared.command.Command.{Command}
 use Rattle.bgp_conf.specs.declared.command.Command.TheVariants.{AddPeer, RemovePeer, Enable, Disable, SetPolicy, DropPolicy, UseIn, UseOut, Network, NoNetwork, Reach, NoReach}
-use Rattle.bgp_conf.specs.declared.refusal.Refusal.{Refusal}
-use Rattle.bgp_conf.specs.declared.refusal.Refusal.TheVariants.{UnknownName, TooMany, InUse, Range as OutOfRange, BadSlot, ClockBack, NotExpected, SlotTaken, NoMemory, AddressTaken}
-use Rattle.speaker.specs.declared.event.Report.{Report}
 use Rattle.rtr_client.specs.declared.state.ClientState.{ClientState}
 use Rattle.rtr_client.specs.declared.state.ClientState.TheVariants.{Off, Opening, Asked, Wait, Loading, Synced}
 
@@ -27,32 +24,6 @@ is_synced (Some Synced) = true
 -- they may go from the first turn on behind which the cache's session is synced, or whose moment is theirs
 abbrev pub opens : ℕ → Option ClientState → Waiting → Bool
 opens now session waiting = waiting.is_open || (is_synced session || nat_le waiting.until now)
-
--- the first that waits, and the others
-abbrev pub first_of : List ℕ → Option ℕ
-first_of [] = None
-first_of (slot ∷ slots) = Some slot
-
-abbrev pub behind_first : Waiting → Waiting
-behind_first waiting = record waiting { slots = drop 1 waiting.slots }
-
--- memory was wanting
-abbrev pub lacks_memory : Result Report Refusal → Bool
-lacks_memory (Ok report) = false
-lacks_memory (Err UnknownName) = false
-lacks_memory (Err TooMany) = false
-lacks_memory (Err InUse) = false
-lacks_memory (Err OutOfRange) = false
-lacks_memory (Err BadSlot) = false
-lacks_memory (Err ClockBack) = false
-lacks_memory (Err NotExpected) = false
-lacks_memory (Err SlotTaken) = false
-lacks_memory (Err NoMemory) = true
-lacks_memory (Err AddressTaken) = false
-
--- the first is enabled, and waits on where memory is wanting
-abbrev pub passed : Result Report Refusal → Waiting → Waiting
-passed result waiting = if lacks_memory result then waiting else behind_first waiting
 
 -- the other slots
 abbrev pub others : ℕ → List ℕ → List ℕ

@@ -28,8 +28,9 @@ pub enum AttendFault {
 }
 
 /// So many turns, or fewer where an operator stops them, each at the moment that is read for it, with the operators' lines
-/// between them; peers that wait are enabled where they may go. The journal looks on behind each turn, and writes to the
-/// output. Between turns the program rests until one may find something to do, or so long.
+/// between them; peers that wait are enabled where they may go, and those that were cleared once their connections are gone. The
+/// journal looks on behind each turn, and writes to the output. Between turns the program rests until one may find something to
+/// do, or so long.
 pub fn attended_turns<
     R: Clock,
     W: Wire + Drop,
@@ -63,6 +64,7 @@ pub fn attended_turns<
             return Ok(());
         }
         desk.let_through(served, now);
+        desk.begin_again(served);
         desk.attend(served, operators, now);
         served.wait(rest_of(operators, rest));
     }

@@ -1,14 +1,18 @@
 //! What each line is answered.
 ghost use Rattle.std.specs.Prelude.{◌≡◌, IfOk, None};
 ghost use Rattle.std.specs.Bool.{OnTrue};
-ghost use Rattle.speaker_desk.specs.Answering.{AnswersLine, AnswersText, AreObeyed, ClearsSlot, Commands, IsObeyed, IsToldWhere, Stops, StopsBelow};
-ghost use Rattle.speaker_desk.specs.Attended.{AttendsBelow, AttendsWish, HasStopped, IsTold, LetsFirst, LetsThrough};
-ghost use Rattle.speaker_desk.specs.Waiting.{decided_by, first_of, without};
+ghost use Rattle.speaker_desk.specs.Answering.{AnswersLine, AnswersText, ClearsSlot, Commands, IsCleared, IsObeyed, IsToldWhere, Stops, StopsBelow, settled};
+ghost use Rattle.speaker_desk.specs.Attended.{AttendsBelow, AttendsWish, BeginsBelow, BeginsIf, EnablesAll, HasStopped, IsTold, LetsThrough, may_begin};
+ghost use Rattle.speaker_desk.specs.Restarts.{is_gone, none_again};
+ghost use Rattle.speaker_turns.specs.Sessions.{transport_of};
+ghost use Rattle.speaker_turns.specs.declared.end.End.TheVariants.{Peer as PeerEnd};
+ghost use Rattle.speaker_desk.specs.Waiting.{decided_by};
 
 use crate::answers::{say_bad_line, say_done, say_no_peer, say_refused};
 use crate::exchange::Exchange;
 use crate::gate::Gate;
 use crate::line::{added_by, ascii_text, decided_by, line_of, remote_of, without_return};
+use crate::restarts::Restarts;
 use bgp_conf::{Command, PEER_SLOTS, Refusal};
 use command_lines::words_of;
 use control_lines::{OPERATORS, Operators, Wish};
@@ -47,6 +51,7 @@ pub struct Desk<'a> {
     // Where the peers of the settings are.
     remotes: &'a [(u8, SocketAddr)],
     gate: Gate,
+    restarts: Restarts,
     exchange: &'a Exchange,
     // What is being said, and what is left of the table of each operator.
     page: Vec<u8>,
@@ -62,7 +67,7 @@ impl<'a> Model for Desk<'a> {
 
     ghost Value = { DeskState };
 
-    ghost view = { λ desk. record { remotes = desk.remotes.now; waiting = desk.gate; stopped = desk.stopped } };
+    ghost view = { λ desk. record { remotes = desk.remotes.now; waiting = desk.gate; again = desk.restarts; stopped = desk.stopped } };
 }
 
 impl<'a> Desk<'a> {
@@ -73,12 +78,13 @@ impl<'a> Desk<'a> {
         gate: Gate,
         exchange: &'a Exchange,
     ) -> Result<Desk<'a>, AllocError>
-        ensures { IfOk result (λ desk. desk ≡ record { remotes = remotes.now; waiting = gate; stopped = None }) }
+        ensures { IfOk result (λ desk. desk ≡ record { remotes = remotes.now; waiting = gate; again = none_again; stopped = None }) }
     {
         Ok(Desk {
             alloc,
             remotes,
             gate,
+            restarts: Restarts::none(alloc)?,
             exchange,
             page: Vec::new(alloc),
             left: nothing_left(alloc)?,
@@ -95,8 +101,8 @@ impl<'a> Desk<'a> {
     }
 
     /// Enables the peers that wait, where they may go: from the first turn on behind which the session with the cache is synced,
-    /// or whose moment is theirs. One that memory is refused to waits on.
-    #[tactic(auto, using(crate::proofs::Attended::lets_none, crate::proofs::Attended::lets_first, crate::proofs::Attended::lets_all))]
+    /// or whose moment is theirs.
+    #[tactic(auto, using(crate::proofs::Attended::lets_none, crate::proofs::Attended::lets_all))]
     pub fn let_through<W: Wire + Drop, B: Book<Global>>(
         &mut self,
         served: &mut SpeakerLoop<W, Global, B>,
@@ -107,24 +113,53 @@ impl<'a> Desk<'a> {
         if !self.gate.open(now, served.speaker().cache_session()) {
             return;
         }
-        for _ in 0..PEER_SLOTS {
-            self.let_first(served);
+        let slots = self.gate.take(self.alloc);
+        self.enable_all(served, slots.as_slice());
+    }
+
+    // Enables the peers of these slots, one after another.
+    fn enable_all<W: Wire + Drop, B: Book<Global>>(
+        &mut self,
+        served: &mut SpeakerLoop<W, Global, B>,
+        slots: &[u8],
+    )
+        ensures all { EnablesAll slots.now served.old served.new }
+        ensures same { self.new ≡ self.old }
+    {
+        for slot in slots {
+            let _taken = served.obey(Command::Enable(*slot));
+            self.note_let(*slot);
         }
     }
 
-    fn let_first<W: Wire + Drop, B: Book<Global>>(&mut self, served: &mut SpeakerLoop<W, Global, B>)
-        ensures { LetsFirst (first_of self.old.waiting.slots) (record { served = served.old; desk = self.old }) (record { served = served.new; desk = self.new }) }
+    /// Enables the peers that were cleared and whose connections are gone by now, each once, so that their sessions begin at
+    /// once.
+    #[tactic(auto, using(crate::proofs::Attended::begins_first, crate::proofs::Attended::begins_more, crate::proofs::Attended::begins_all))]
+    pub fn begin_again<W: Wire + Drop, B: Book<Global>>(
+        &mut self,
+        served: &mut SpeakerLoop<W, Global, B>,
+    )
+        ensures { BeginsBelow 64 (record { served = served.old; desk = self.old }) (record { served = served.new; desk = self.new }) }
     {
-        let Some(slot) = self.gate.first() else {
-            return;
-        };
-        match served.obey(Command::Enable(slot)) {
-            Err(Refusal::NoMemory) => {}
-            Ok(_) | Err(_) => {
-                self.note_let(slot);
-                self.gate.pass();
-            }
+        for slot in 0..PEER_SLOTS {
+            self.begin_slot(served, slot);
         }
+    }
+
+    #[tactic(auto, using(crate::proofs::Attended::begins_none, crate::proofs::Attended::begins_one))]
+    fn begin_slot<W: Wire + Drop, B: Book<Global>>(
+        &mut self,
+        served: &mut SpeakerLoop<W, Global, B>,
+        slot: u8,
+    )
+        ensures { BeginsIf (may_begin slot (record { served = served.old; desk = self.old })) slot (record { served = served.old; desk = self.old }) (record { served = served.new; desk = self.new }) }
+    {
+        if !self.restarts.has(slot) || !is_gone(served.speaker(), slot) {
+            return;
+        }
+        let _taken = served.obey(Command::Enable(slot));
+        self.note_let(slot);
+        self.restarts.set(slot, false);
     }
 
     // A log has it as an operator's command.
@@ -268,7 +303,7 @@ impl<'a> Desk<'a> {
         }
     }
 
-    // Stops the program: disables each peer, of whom none waits any more.
+    // Stops the program: disables each peer, of whom none waits or is to begin again any more.
     fn stop<W: Wire + Drop, B: Book<Global>>(
         &mut self,
         served: &mut SpeakerLoop<W, Global, B>,
@@ -278,6 +313,7 @@ impl<'a> Desk<'a> {
     {
         stop_all(served);
         self.gate.forget_all();
+        self.restarts.forget_all();
         self.stopped = Some(now);
         writeln!(self.page, "ok")?;
         Ok(Said::Whole)
@@ -346,7 +382,7 @@ impl<'a> Desk<'a> {
     }
 
     // Hands the command to the speaker. Of a peer that is configured so it is told where it is, and one whose session it decides
-    // on waits no longer.
+    // on neither waits nor is to begin again any longer.
     #[tactic(auto, using(crate::proofs::Attended::obeys_ok, crate::proofs::Attended::obeys_err))]
     fn obey<W: Wire + Drop, B: Book<Global>>(
         &mut self,
@@ -389,17 +425,20 @@ impl<'a> Desk<'a> {
         }
     }
 
-    // The peer on whose session a command decides waits no longer.
+    // The peer on whose session a command decides neither waits nor is to begin again any longer.
     fn decide(&mut self, command: Command<'_>)
-        ensures { self.new ≡ record self.old { waiting = without (decided_by command.entry) self.old.waiting } }
+        ensures { self.new ≡ settled (decided_by command.entry) self.old }
     {
         match decided_by(&command) {
-            Some(slot) => self.gate.forget(slot),
+            Some(slot) => {
+                self.gate.forget(slot);
+                self.restarts.set(slot, false);
+            }
             None => {}
         }
     }
 
-    // Ends the session of a slot by an administrative shutdown (RFC 4486 section 4), and has it begin again.
+    // Ends the session of a slot by an administrative shutdown (RFC 4486 section 4), behind which it begins again.
     #[tactic(auto, using(crate::proofs::Attended::commands_none, crate::proofs::Attended::commands_clears))]
     fn clear<W: Wire + Drop, B: Book<Global>>(
         &mut self,
@@ -417,38 +456,41 @@ impl<'a> Desk<'a> {
         }
     }
 
-    // Disables the peer of the slot that a word names, and enables it.
-    #[tactic(auto, using(crate::proofs::Attended::clears_both, crate::proofs::Attended::clears_none))]
+    // The same of the slot that a word names.
+    #[tactic(auto, using(crate::proofs::Attended::clears_none))]
     fn clear_slot<W: Wire + Drop, B: Book<Global>>(
         &mut self,
         served: &mut SpeakerLoop<W, Global, B>,
-        slot: &str,
+        word: &str,
     ) -> io::Result<Said>
-        ensures { ClearsSlot slot.now (record { served = served.old; desk = self.old }) (record { served = served.new; desk = self.new }) }
+        ensures { ClearsSlot word.now (record { served = served.old; desk = self.old }) (record { served = served.new; desk = self.new }) }
     {
-        let disable = match line_of(self.alloc, "disable", slot) {
+        let line = match line_of(self.alloc, "disable", word) {
             Ok(line) => line,
             Err(fault) => return self.refuse_line(fault, ""),
         };
-        let enable = match line_of(self.alloc, "enable", slot) {
-            Ok(line) => line,
-            Err(fault) => return self.refuse_line(fault, ""),
-        };
-        self.restart(served, disable.command(), enable.command())
+        match line.command() {
+            Command::Disable(slot) => self.restart(served, slot),
+            _ => self.bad_line(""),
+        }
     }
 
-    // Hands in a command, and where it is obeyed another one.
-    #[tactic(auto, using(crate::proofs::Attended::both_ok, crate::proofs::Attended::both_err))]
+    // Disables the peer of a slot, which is enabled again once its connection is gone.
+    #[tactic(auto, using(crate::proofs::Attended::cleared_ok, crate::proofs::Attended::cleared_err))]
     fn restart<W: Wire + Drop, B: Book<Global>>(
         &mut self,
         served: &mut SpeakerLoop<W, Global, B>,
-        first: Command<'_>,
-        second: Command<'_>,
+        slot: u8,
     ) -> io::Result<Said>
-        ensures { AreObeyed first.entry second.entry (record { served = served.old; desk = self.old }) (record { served = served.new; desk = self.new }) }
+        ensures { IsCleared slot (record { served = served.old; desk = self.old }) (record { served = served.new; desk = self.new }) }
     {
-        match served.obey(first) {
-            Ok(_) => self.obey(served, second),
+        let command = Command::Disable(slot);
+        match served.obey(command) {
+            Ok(report) => {
+                self.gate.forget(slot);
+                self.restarts.set(slot, true);
+                self.say_obeyed(&command, &report)
+            }
             Err(why) => self.refuse(why),
         }
     }
@@ -488,6 +530,13 @@ impl<'a> Desk<'a> {
             None => Ok(Said::Whole),
         }
     }
+}
+
+// Whether the slot's session has no connection, and awaits none.
+fn is_gone<B: Book<Global>>(speaker: &Speaker<Global, B>, slot: u8) -> bool
+    ensures { result ≡ is_gone (transport_of speaker.now (PeerEnd slot)) }
+{
+    speaker.transport(slot) == Transport::None
 }
 
 // The slot of whose peer a table is, where there is no such peer.

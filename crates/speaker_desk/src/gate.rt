@@ -1,9 +1,11 @@
 //! Peers that wait for payloads.
 ghost use Rattle.std.specs.Prelude.{◌≡◌, false};
-ghost use Rattle.speaker_desk.specs.Waiting.{behind_first, first_of, is_synced, none_waits, opens, others};
+ghost use Rattle.speaker_desk.specs.Waiting.{is_synced, none_waits, opens, others};
 
 use rtr_client::ClientState;
+use std::alloc::Global;
 use std::marker::Model;
+use std::mem;
 
 /// Slots whose peers wait until the session with the cache is synced, or for a moment. Once they may go they may.
 #[derive(Drop)]
@@ -42,20 +44,12 @@ impl Gate {
         self.is_open
     }
 
-    /// The first that waits.
-    pub(crate) fn first(&self) -> Option<u8>
-        ensures { result ≡ first_of self.now.slots }
+    /// Those that wait, of which none does any more.
+    pub(crate) fn take(&mut self, alloc: Global) -> Vec<u8>
+        ensures taken { result.items ≡ self.old.slots }
+        ensures left { self.new ≡ none_waits self.old }
     {
-        self.slots.first().copied()
-    }
-
-    /// The first doesn't wait any more.
-    pub(crate) fn pass(&mut self)
-        ensures { self.new ≡ behind_first self.old }
-    {
-        if !self.slots.is_empty() {
-            self.slots.remove(0);
-        }
+        mem::replace(&mut self.slots, Vec::new(alloc))
     }
 
     /// The peer of this slot doesn't wait.

@@ -1,5 +1,5 @@
 //! What follows of turns with operators between them.
-ghost use Rattle.std.specs.Prelude.{◌≡◌, ◌<◌, ◌-◌, ◌^◌, ◌++◌, ℕ, List, Result, Some, length, true};
+ghost use Rattle.std.specs.Prelude.{◌≡◌, ◌<◌, ◌+◌, ◌-◌, ◌^◌, ◌++◌, ℕ, Contains, List, None, Ok, Result, Some, length, true};
 ghost use Rattle.speaker.specs.Agreement.{Agrees};
 ghost use Rattle.speaker.specs.Runs.{Run};
 ghost use Rattle.speaker.specs.declared.config.Config.{Config};
@@ -7,8 +7,9 @@ ghost use Rattle.speaker_turns.specs.Carrying.{CarriesOwn, IsFresh};
 ghost use Rattle.speaker_turns.specs.Ends.{place_count};
 ghost use Rattle.speaker_turns.specs.Serving.{Connection};
 ghost use Rattle.speaker_turns.specs.Turns.{Turns, place_at};
-ghost use Rattle.speaker_desk.specs.Attended.{AttendsTurns, Hall};
+ghost use Rattle.speaker_desk.specs.Attended.{AttendsTurns, Hall, TakesRounds};
 ghost use Rattle.speaker_desk.specs.Moves.{AreCallsOfAll, Move, MovesAll, TakesMoves};
+ghost use Rattle.speaker_desk.specs.Rounds.{BecomesOf, StopAtAsking};
 ghost use Rattle.speaker_desk.specs.declared.attending.AttendFault.{AttendFault};
 
 use control_lines::Operators;
@@ -31,4 +32,15 @@ pub fn commands_leave_what_sessions_carry()
 /// that are let through.
 pub fn attended_turns_are_moves<P: Operators>()
     ensures { (count : ℕ) (result : Result (Unit {0}) AttendFault) (before behind : List ℕ) (old new : Hall P) → AttendsTurns P.wish P.line P.turns P.hears count result before behind old new → TakesMoves count result before behind old.stand.served new.stand.served }
+{}
+
+/// Where all is well behind fewer turns than were asked for, an operator's line was `stop` in a round before the last turn.
+pub fn fewer_turns_were_stopped<P: Operators>()
+    ensures { (count : ℕ) (before behind : List ℕ) (old new : Hall P) → AttendsTurns P.wish P.line P.turns P.hears {E = AttendFault} count (Ok tt) before behind old new → old.stand.desk.stopped ≡ None → length behind < count + length before → StopAtAsking P.wish P.line P.turns P.hears before behind old }
+{}
+
+/// A peer that waits is enabled in the first round in which it may go, and the gate enables none before, unless an operator's
+/// line decides on it.
+pub fn waiting_peers_go_when_they_may<P: Operators>()
+    ensures { (slot : ℕ) (moments : List ℕ) (old new : Hall P) (rounds : TakesRounds P.wish P.line P.turns P.hears moments old new) → Contains old.stand.desk.waiting.slots slot → BecomesOf P.wish P.line P.turns P.hears slot moments old new rounds }
 {}

@@ -1,17 +1,40 @@
 -- The commands of a text.
-use Rattle.std.proofs.Common.{◌≡◌, List, ℕ, [], Option, None, Some, refl, ap, append-nil, is_some}
-use Rattle.std.proofs.lemmas.Option.{same_Some}
+use Rattle.std.proofs.Common.{◌≡◌, List, ℕ, [], OnOk, Option, Some, Result, Ok, Err, ap, append-nil, subst, sym}
+use Rattle.std.specs.Result.{IsErrAnd}
+use Rattle.file_paths.specs.OpenedFiles.{AreOctetsOf}
+use Rattle.scenario.specs.CommandFaults.{IsOutside}
 use Rattle.scenario.specs.FileLines.{lines}
-use Rattle.scenario.specs.ObeyedCommands.{Obeys, ObeysSome}
+use Rattle.scenario.specs.ObeyedCommands.{Obeys, ObeysBefore}
+use Rattle.scenario.specs.declared.commands.CommandsFault.{CommandsFault}
+use Rattle.scenario.specs.declared.commands.CommandsFault.TheVariants.{BadLine, Refused, Device, NoMemory}
 use Rattle.speaker.specs.Agreement.{Agrees}
 use Rattle.speaker.specs.SpeakerState.{SpeakerState}
 use Rattle.speaker.specs.declared.config.Config.{Config}
-use Rattle.speaker_program.specs.Commanded.{IsCommanded, ObeysText}
+use Rattle.speaker_program.specs.Commanded.{IsCommanded, IsCommandedBy, ObeysText}
+use Rattle.speaker_program.specs.Endings.{IsUnread}
+use Rattle.speaker_program.specs.declared.fault.SpeakerFault.{SpeakerFault}
 
--- those of a text that is known are its lines'; of one that isn't known those of some lines
-pub obeys_text : (text : Option (List ℕ)) (old new : SpeakerState) → ((t : List ℕ) → text ≡ Some t → Obeys (lines t) old new) → ObeysSome old new → ObeysText text old new
-obeys_text None old new each some = (some.0, λ t is. absurd (let wrong = ap is_some is in cc), some.1)
-obeys_text (Some t) old new each some = (lines t, λ other is. ap lines (same_Some t other is), each t refl)
+-- those of the octets that a text has are the text's
+pub obeys_text : (told : Option (List ℕ)) (octets : List ℕ) (old new : SpeakerState) → AreOctetsOf told octets → Obeys (lines octets) old new → ObeysText told old new
+obeys_text told octets old new are obeys = (lines octets, λ known is. ap lines (are known is), obeys)
+
+pub obeys_if_ok : (told : Option (List ℕ)) (octets : List ℕ) (result : Result (Unit {0}) SpeakerFault) (old new : SpeakerState) → AreOctetsOf told octets → IsCommandedBy (lines octets) result old new → OnOk result (ObeysText told old new)
+obeys_if_ok told octets (Ok done) old new are obeys = obeys_text told octets old new are obeys
+obeys_if_ok told octets (Err ends) old new are obeys = tt
+
+pub commanded_as_told : (told : Option (List ℕ)) (octets text : List ℕ) (result : Result (Unit {0}) SpeakerFault) (old new : SpeakerState) → AreOctetsOf told octets → IsCommandedBy (lines octets) result old new → told ≡ Some text → IsCommandedBy (lines text) result old new
+commanded_as_told told octets text result old new are obeys is = subst (λ (o : List ℕ). IsCommandedBy (lines o) result old new) (are text is) obeys
+
+-- where nothing was read, no line is at fault
+before_none : (on : List (List ℕ)) (fault : CommandsFault) (old new : SpeakerState) → IsOutside fault → ObeysBefore on fault old new
+before_none on (BadLine number) old new outside = absurd outside
+before_none on (Refused number why) old new outside = absurd outside
+before_none on Device old new outside = tt
+before_none on NoMemory old new outside = tt
+
+pub unread_commands : (on : List (List ℕ)) (result : Result (Unit {0}) SpeakerFault) (ends : SpeakerFault) (old new : SpeakerState) → IsErrAnd result (λ e. e ≡ ends) → IsUnread ends → IsCommandedBy on result old new
+unread_commands on (Ok done) ends old new is unread = absurd is
+unread_commands on (Err other) ends old new is unread = let u = subst IsUnread (sym is) unread in (u.0, u.1, before_none on u.0 old new u.2)
 
 -- behind them the speaker is as they leave one that has obeyed none
 pub commanded_by : (text : Option (List ℕ)) (config : Config) (old new : SpeakerState) → Agrees config [] old → ObeysText text old new → IsCommanded text config new

@@ -2,7 +2,7 @@
 use Rattle.std.proofs.Common.{◌≡◌, Result, Ok, Err, IfErr, subst, sym}
 use Rattle.std.specs.Result.{IsErrAnd}
 use Rattle.scenario.specs.declared.commands.CommandsFault.{CommandsFault}
-use Rattle.speaker_program.specs.Endings.{IsOfCommands, IsOfWords}
+use Rattle.speaker_program.specs.Endings.{IsOfCommands, IsOfWords, IsUnread}
 use Rattle.speaker_program.specs.declared.fault.SpeakerFault.{SpeakerFault}
 use Rattle.speaker_program.specs.declared.fault.SpeakerFault.TheVariants.{Words, File, Settings, Commands, Slot, Refused, Listen, Metrics, Clock, Turn, Output, NoMemory}
 use Rattle.wires.specs.declared.fault.LoopFault.{LoopFault}
@@ -30,3 +30,6 @@ commands_are_other why (Clock error) is = λ words. words
 commands_are_other why (Turn fault) is = λ words. words
 commands_are_other why (Output error) is = λ words. words
 commands_are_other why NoMemory is = λ words. words
+
+pub unread_is_other : {T : Type 0} (r : Result T SpeakerFault) (fault : SpeakerFault) → IsErrAnd r (λ ends. ends ≡ fault) → IsUnread fault → IfErr r (λ ends. ¬ (IsOfWords ends))
+unread_is_other r fault is unread = other_fault r fault is (commands_are_other unread.0 fault unread.1)

@@ -1,5 +1,5 @@
 -- What settings make of a loop, and turns of that.
-use Rattle.std.specs.Prelude.{◌≡◌, ◌||◌, ℕ, Bool, true, false, List, [], ◌∷◌, Option, None, Some, Ok, String, is_some, string_bytes, ⊤}
+use Rattle.std.specs.Prelude.{◌≡◌, ◌||◌, ℕ, Bool, true, false, List, [], ◌∷◌, Option, None, Some, Ok, String, is_some, string_bytes}
 use Rattle.std.specs.declared.alloc.Global.{Global}
 use Rattle.std.specs.declared.net.socket_addr.SocketAddr.{SocketAddr as Address}
 use Rattle.speaker.specs.SpeakerState.{SpeakerState}
@@ -17,6 +17,7 @@ use Rattle.control_lines.specs.declared.talk.Wish.{Wish}
 use Rattle.control_sockets.specs.Places.{HearsAt, Turns as VisitsAll, line_at, wish_at}
 use Rattle.control_sockets.specs.declared.control_socket.ControlSocket.{ControlSocket}
 use Rattle.speaker_desk.specs.Attended.{AttendsTurns, Hall}
+use Rattle.speaker_desk.specs.Restarts.{none_again}
 use Rattle.speaker_desk.specs.Standing.{DeskState}
 use Rattle.speaker_desk.specs.declared.attending.AttendFault.{AttendFault}
 use Rattle.speaker_settings.specs.declared.settings.SpeakerSettings.{SpeakerSettings}
@@ -71,7 +72,7 @@ AreOperatorsOf {P} Gives (Some path) operators = (there : P) × Gives (string_by
 -- a desk before the first turn, at which these peers wait
 abbrev pub desk_of : SpeakerSettings → List ℕ → DeskState
 desk_of settings slots =
-    record { remotes = settings.peers.items; waiting = record { slots = slots; until = wait_until settings.wait_for_cache; is_open = false }; stopped = None }
+    record { remotes = settings.peers.items; waiting = record { slots = slots; until = wait_until settings.wait_for_cache; is_open = false }; again = none_again; stopped = None }
 
 module _ {P : Type 0} (wish : P → ℕ → Wish) (line : P → ℕ → List ℕ) (goes : ℕ → P → P → Type 0) (hears : ℕ → List ℕ → Bool → P → P → Type 0) (Gives : List ℕ → P → Type 0) where
   -- so many turns or fewer with the operators of the settings between them, before which peers are disabled that are to wait, where they
@@ -87,10 +88,10 @@ module _ {P : Type 0} (wish : P → ℕ → Wish) (line : P → ℕ → List ℕ
         (record { stand = record { served = held; desk = desk_of settings slots }; operators = operators }) left
     pub leaves : new ≡ left.stand.served
 
--- operators at a Unix socket
+-- operators at a Unix socket that was opened at the path
 abbrev pub AttendsSocket : SpeakerSettings → ℕ → List ℕ → List ℕ → Turns → Turns → Type 0
 AttendsSocket = AttendsOperators {P = ControlSocket} (λ socket. wish_at socket.places.items) (λ socket. line_at socket.places.items) (λ now old new. VisitsAll now old.places.items new.places.items)
-    (λ key octets goes_on old new. HearsAt key octets goes_on old.places.items new.places.items) (λ path socket. ⊤)
+    (λ key octets goes_on old new. HearsAt key octets goes_on old.places.items new.places.items) (λ path socket. string_bytes socket.path ≡ path)
 
 -- so many turns, each at the moment that the clock told for it, or those where commands may come between them
 abbrev pub TakesTurnsOf : (SpeakerSettings → ℕ → List ℕ → List ℕ → Turns → Turns → Type 0) → Bool → SpeakerSettings → ℕ → List ℕ → List ℕ → Turns → Turns → Type 0

@@ -1,6 +1,7 @@
 -- How serving ended.
 use Rattle.std.specs.Prelude.{◌≡◌, ℕ, Result, Ok, Err, ⊤}
 use Rattle.program_endings.specs.Exits.{status_of}
+use Rattle.scenario.specs.CommandFaults.{IsOutside}
 use Rattle.scenario.specs.declared.commands.CommandsFault.{CommandsFault}
 use Rattle.speaker_program.specs.Exits.{exit_of_fault}
 use Rattle.speaker_program.specs.declared.fault.SpeakerFault.{SpeakerFault}
@@ -26,7 +27,7 @@ abbrev pub IsOfCommands : CommandsFault → SpeakerFault → Type 0
 IsOfCommands fault (Words why) = ⊥
 IsOfCommands fault (File path error) = ⊥
 IsOfCommands fault (Settings path why) = ⊥
-IsOfCommands fault (Commands path why) = why ≡ fault
+IsOfCommands fault (Commands path unobeyed) = unobeyed.why ≡ fault
 IsOfCommands fault (Slot path slot) = ⊥
 IsOfCommands fault (Refused refusal) = ⊥
 IsOfCommands fault (Listen address error) = ⊥
@@ -35,6 +36,10 @@ IsOfCommands fault (Clock error) = ⊥
 IsOfCommands fault (Turn why) = ⊥
 IsOfCommands fault (Output error) = ⊥
 IsOfCommands fault NoMemory = ⊥
+
+-- nothing of the commands could be read, for want of memory or since the file failed
+abbrev pub IsUnread : SpeakerFault → Type 0
+IsUnread ends = (fault : CommandsFault) × IsOfCommands fault ends × IsOutside fault
 
 -- well, or by this fault
 abbrev pub EndsSo : {T : Type 0} → Result T SpeakerFault → Result (Unit {0}) SpeakerFault → Type 0

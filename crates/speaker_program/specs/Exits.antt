@@ -35,7 +35,7 @@ abbrev pub exit_of_fault : SpeakerFault → ExitFault
 exit_of_fault (Words why) = Arguments
 exit_of_fault (File path error) = Device
 exit_of_fault (BadSettings path why) = exit_of_settings why
-exit_of_fault (Commands path why) = exit_of_commands why
+exit_of_fault (Commands path unobeyed) = exit_of_commands unobeyed.why
 exit_of_fault (Slot path slot) = Settings
 exit_of_fault (RefusedBeginning refusal) = exit_of_speaker refusal
 exit_of_fault (Listen address error) = Device

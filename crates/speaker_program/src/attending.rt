@@ -1,6 +1,7 @@
 //! Turns with commands between them.
 ghost use Rattle.std.specs.Prelude.{◌≡◌, Ok, None, IfErr, IfOk, OnOk, false};
 ghost use Rattle.std.specs.Fn.{FnOnceReturnsAt};
+ghost use Rattle.speaker_desk.specs.Restarts.{none_again};
 ghost use Rattle.speaker_program.specs.Begun.{AreOperatorsOf, AttendsOperators};
 ghost use Rattle.speaker_program.specs.Endings.{IsOfWords};
 
@@ -77,7 +78,7 @@ fn desk_at<'a>(
     gate: Gate,
     exchange: &'a Exchange,
 ) -> Result<Desk<'a>, SpeakerFault>
-    ensures desk { IfOk result (λ desk. desk ≡ record { remotes = remotes.now; waiting = gate; stopped = None }) }
+    ensures desk { IfOk result (λ desk. desk ≡ record { remotes = remotes.now; waiting = gate; again = none_again; stopped = None }) }
     ensures fault { IfErr result (λ fault. ¬ (IsOfWords fault)) }
 {
     match Desk::new(alloc, remotes, gate, exchange) {

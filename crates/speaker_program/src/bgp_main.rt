@@ -56,9 +56,10 @@ where
     ensures output { ((path : List ℕ) (turns : ℕ) → ¬ (IsCall words.now path turns)) → ((aside : Aside) → ¬ (Asks words.now aside)) → output.new ≡ output.old }
     ensures silent { result ≡ 0 → errors.new ≡ errors.old }
     // The status is 0 only where the settings of a file that was opened at the path of the words were served for just the turns
-    // of the words, or where operators are attended to between turns for so many or for fewer behind one who stopped them, each
-    // answered what its own line asks for, with peers that are to wait let through when they may go: with the commands of a file that was opened at their path, over a wire that was opened where they listen, and that
-    // listens there still, at the moments of the instants that the system's clock answered.
+    // of the words, or where the operators of a socket that was opened at their `control` are attended to between turns for so
+    // many or for fewer behind one who stopped them, each answered what its own line asks for, with peers that are to wait let
+    // through when they may go: with the commands of a file that was opened at their path, over a wire that was opened where they
+    // listen, and that listens there still, at the moments of the instants that the system's clock answered.
     ensures serves { ((aside : Aside) → ¬ (Asks words.now aside)) → result ≡ 0 → (path : List ℕ) × (turns : ℕ) × (settings : SpeakerSettings) × (instants : List ℕ) × (served : Turns)
         × IsCall words.now path turns × AreSettingsOf (AreOctetsAt path) settings
         × IsServed (IsTextAt (string_bytes settings.commands)) (λ wire. wire ≡ nothing_told settings.listen) AttendsSocket settings turns [] (moments_of instants) served × (served.counts.wire.listens ≡ settings.listen) }

@@ -1,8 +1,9 @@
 //! The speaker of the settings, and their commands.
 ghost use Rattle.std.specs.Prelude.{◌≡◌, [], ℕ, List, Ok, Some, IfErr, IfOk, MatchOption, OnOk, string_bytes};
 ghost use Rattle.std.specs.Fn.{FnOnceReturnsAt};
+ghost use Rattle.file_paths.specs.OpenedFiles.{AreOctetsOf};
 ghost use Rattle.speaker_program.specs.Commanded.{IsCommanded, IsCommandedBy, ObeysText};
-ghost use Rattle.speaker_program.specs.Endings.{IsOfWords};
+ghost use Rattle.speaker_program.specs.Endings.{IsOfCommands, IsOfWords, IsUnread};
 ghost use Rattle.speaker.specs.SlotTimes.{usual_timers};
 ghost use Rattle.speaker_program.specs.Slots.{HasJust, is_configured};
 ghost use Rattle.speaker_program.specs.ToldConfig.{config_of, with_all_times};
@@ -10,9 +11,11 @@ ghost use Rattle.scenario.specs.FileLines.{lines};
 ghost use Rattle.speaker.specs.Agreement.{Agrees};
 
 use crate::fault::SpeakerFault;
+use crate::unobeyed::Unobeyed;
 use bgp_conf::PEER_SLOTS;
 use decision::Book;
-use scenario::obey_lines;
+use file_paths::octets_of;
+use scenario::{CommandsFault, obey_lines};
 use speaker::{CACHE_RETRY_SECONDS, Config, PeerTimers, SlotTimers, Speaker};
 use speaker_settings::{SpeakerSettings, has_slot};
 use std::alloc::Global;
@@ -111,7 +114,8 @@ where
     }
 }
 
-// Hands the commands that a reader of this path has to the speaker, line by line.
+// Hands the commands that a reader of this path has to the speaker. They are read whole before, so that the cause of a line that
+// is none can be told.
 fn command_from<B: Book<Global>, R: BufRead + Drop>(
     alloc: Global,
     path: &str,
@@ -122,9 +126,43 @@ fn command_from<B: Book<Global>, R: BufRead + Drop>(
     ensures each { (text : List ℕ) → R.remaining reader ≡ Some text → IsCommandedBy (lines text) result speaker.old speaker.new }
     ensures obeys { OnOk result (ObeysText (R.remaining reader) speaker.old speaker.new) }
 {
-    match obey_lines(alloc, reader, speaker) {
+    let text = text_of(alloc, path, reader)?;
+    obey_text(alloc, path, text.as_slice(), speaker)
+}
+
+// The text that a reader of this path has.
+fn text_of<R: BufRead + Drop>(alloc: Global, path: &str, reader: R) -> Result<Vec<u8>, SpeakerFault>
+    ensures text { IfOk result (λ text. AreOctetsOf (R.remaining reader) text.items) }
+    ensures fault { IfErr result IsUnread }
+{
+    match octets_of(alloc, reader) {
+        Ok(text) => Ok(text),
+        Err(error) => Err(unread(alloc, path, CommandsFault::from(error))),
+    }
+}
+
+fn unread(alloc: Global, path: &str, why: CommandsFault) -> SpeakerFault
+    ensures { IsOfCommands why result }
+{
+    SpeakerFault::bad_commands(alloc, path, Unobeyed::unread(why))
+}
+
+// Hands the commands of a text to the speaker, line by line.
+fn obey_text<B: Book<Global>>(
+    alloc: Global,
+    path: &str,
+    text: &[u8],
+    speaker: &mut Speaker<Global, B>,
+) -> Result<(), SpeakerFault>
+    ensures fault { IfErr result (λ fault. ¬ (IsOfWords fault)) }
+    ensures obeys { IsCommandedBy (lines text.now) result speaker.old speaker.new }
+{
+    match obey_lines(alloc, text, speaker) {
         Ok(()) => Ok(()),
-        Err(why) => Err(SpeakerFault::bad_commands(alloc, path, why)),
+        Err(why) => {
+            let why = Unobeyed::of(alloc, text, why);
+            Err(SpeakerFault::bad_commands(alloc, path, why))
+        }
     }
 }
 

@@ -5,8 +5,8 @@ ghost use Rattle.speaker_program.specs.Exits.{exit_of_fault};
 ghost use Rattle.speaker_program.specs.declared.fault.SpeakerFault.TheVariants.{NoMemory, Turn};
 
 use crate::exits::{of_commands, of_speaker};
+use crate::unobeyed::Unobeyed;
 use program_endings::{ExitFault, FilePath, WordsFault};
-use scenario::CommandsFault;
 use settings_keys::SettingsFault;
 use speaker::Refusal;
 use std::alloc::{AllocError, Global};
@@ -35,10 +35,10 @@ pub enum SpeakerFault {
         why: SettingsFault,
     },
     /// Their commands can't be obeyed.
-    #[error("{path}: {why}", why = Obeying(*.why))]
+    #[error("{path}: {why}")]
     Commands {
         path: FilePath,
-        why: CommandsFault,
+        why: Unobeyed,
     },
     /// Behind their commands this slot has a peer and no table, or a table and no peer.
     #[error("{path}: slot {slot} has a peer in the commands or a table in the settings, and not both")]
@@ -75,21 +75,6 @@ pub enum SpeakerFault {
     NoMemory,
 }
 
-// Why commands can't be obeyed, behind the number of the line.
-#[derive(Clone, Copy)]
-struct Obeying(CommandsFault);
-
-impl Display for Obeying {
-    fn fmt<W: fmt::Write>(&self, f: &mut Formatter<W>) -> fmt::Result {
-        match &self.0 {
-            CommandsFault::BadLine(_) => f.write_str("the line is no command"),
-            CommandsFault::Refused(_, refusal) => Display::fmt(refusal, f),
-            CommandsFault::Device => f.write_str("the file can't be read"),
-            CommandsFault::NoMemory => f.write_str("there is no memory for a line"),
-        }
-    }
-}
-
 // Where it was to listen.
 #[derive(Clone, Copy)]
 struct Listening(Option<SocketAddr>);
@@ -111,7 +96,7 @@ impl SpeakerFault {
         match self {
             SpeakerFault::Words(_) => ExitFault::Arguments,
             SpeakerFault::Settings { why, .. } => why.exit(),
-            SpeakerFault::Commands { why, .. } => of_commands(*why),
+            SpeakerFault::Commands { why, .. } => of_commands(why.why),
             SpeakerFault::Slot { .. } => ExitFault::Settings,
             SpeakerFault::Refused(refusal) => of_speaker(*refusal),
             SpeakerFault::File { .. } | SpeakerFault::Listen { .. } => ExitFault::Device,
@@ -138,8 +123,8 @@ impl SpeakerFault {
     }
 
     /// Commands that can't be obeyed.
-    pub(crate) fn bad_commands(alloc: Global, path: &str, why: CommandsFault) -> SpeakerFault
-        ensures { IsOfCommands why result }
+    pub(crate) fn bad_commands(alloc: Global, path: &str, why: Unobeyed) -> SpeakerFault
+        ensures { IsOfCommands why.why result }
     {
         let path = FilePath::of(alloc, path);
         SpeakerFault::Commands { path, why }

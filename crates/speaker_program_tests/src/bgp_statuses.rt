@@ -281,30 +281,31 @@ fn bad_settings_are_told(rt: HostRuntime) {
     }
 }
 
-// Lines that are no commands, though each but the last four is a line of a script.
-const BAD_LINES: [&str; 22] = [
-    "speaker 65000 192.0.2.1 cache",
-    "up 0",
-    "fail 0",
-    "bytes 0 00",
-    "rup",
-    "rfail",
-    "rbytes 00",
-    "rtake 1",
-    "tick 1",
-    "take 0 1",
-    "show rib",
-    "cache 7 3600 600 7200",
-    "load",
-    "cup",
-    "cdown 0",
-    "cbytes 0 00",
-    "ctick 1",
-    "ctake 0 1",
-    "no command",
-    "enable 0 ",
-    "enable 256",
-    "reach 192.0.2.0/24 \u{661}",
+// Lines that are no commands, though each but the last four is a line of a script, with the cause.
+#[rattlefmt::skip]
+const BAD_LINES: [(&str, &str); 22] = [
+    ("speaker 65000 192.0.2.1 cache", "no line begins with 'speaker'"),
+    ("up 0", "no line begins with 'up'"),
+    ("fail 0", "no line begins with 'fail'"),
+    ("bytes 0 00", "no line begins with 'bytes'"),
+    ("rup", "no line begins with 'rup'"),
+    ("rfail", "no line begins with 'rfail'"),
+    ("rbytes 00", "no line begins with 'rbytes'"),
+    ("rtake 1", "no line begins with 'rtake'"),
+    ("tick 1", "no line begins with 'tick'"),
+    ("take 0 1", "no line begins with 'take'"),
+    ("show rib", "no line begins with 'show'"),
+    ("cache 7 3600 600 7200", "no line begins with 'cache'"),
+    ("load", "no line begins with 'load'"),
+    ("cup", "no line begins with 'cup'"),
+    ("cdown 0", "no line begins with 'cdown'"),
+    ("cbytes 0 00", "no line begins with 'cbytes'"),
+    ("ctick 1", "no line begins with 'ctick'"),
+    ("ctake 0 1", "no line begins with 'ctake'"),
+    ("no command", "no line begins with 'no'"),
+    ("enable 0 ", "words stand apart by single spaces, and none stands at an end of the line"),
+    ("enable 256", "'256' isn't SLOT, a number of 0 to 63"),
+    ("reach 192.0.2.0/24 \u{661}", "an octet of it is outside ASCII"),
 ];
 
 // Commands that are refused, with the number and its words.
@@ -321,11 +322,11 @@ const REFUSED_LINES: [(&str, &str, &str); 9] = [
     ("peer 1 65002 192.0.2.11 192.0.2.1 passive 180 all all", "settings: line 3: refused 45", "another slot has the address"),
 ];
 
-// Whether the line, behind a comment, a peer and an empty line, is told by its number.
-fn is_bad_line(rt: &HostRuntime, line: &str) -> bool {
+// Whether the line, behind a comment, a peer and an empty line, is told by its number, with its cause.
+fn is_bad_line(rt: &HostRuntime, line: &str, cause: &str) -> bool {
     match format!(in rt.alloc(); "# A peer\n{PEER}\n{line}\nnopolicy all\n") {
         Ok(commands) => {
-            let told = (1, "line 4: bad line", "the line is no command");
+            let told = (1, "line 4: bad line", cause);
             tells_on(rt, ONE_PEER, commands.as_str(), Fault::Commands, told)
         }
         Err(_) => false,
@@ -348,8 +349,8 @@ fn is_refused_line(rt: &HostRuntime, line: &str, words: &str, cause: &str) -> bo
 
 #[test]
 fn bad_lines_are_told_by_their_number(rt: HostRuntime) {
-    for line in &BAD_LINES {
-        assert!(rt; is_bad_line(&rt, line), "{line}");
+    for (line, cause) in &BAD_LINES {
+        assert!(rt; is_bad_line(&rt, line, cause), "{line}");
     }
 }
 

@@ -2,7 +2,8 @@ use Rattle.std.proofs.Common.{◌≡◌, ℕ, List, Some, sym, subst, ◌∙◌}
 use Rattle.clocks.specs.Moments.{moments_of}
 use Rattle.wires.specs.Wires.{WireState, nothing_told}
 use Rattle.cache_program.proofs.EndedWell.{served_so}
-use Rattle.cache_program.specs.Opened.{AnySecond, SystemGives}
+use Rattle.cache_program.specs.AttendedTurns.{AttendsSocket}
+use Rattle.cache_program.specs.Opened.{AnySecond, SystemAges, SystemGives}
 use Rattle.cache_program.specs.ServedTurns.{IsServed}
 use Rattle.cache_program.proofs.cache_main.main_serving.Goals as goal
 
@@ -17,6 +18,6 @@ returns-clause-serves g c = λ zero.
       so.0,
       is.3,
       is.4,
-      subst (λ (clock : List ℕ). IsServed (SystemGives is.2) (λ (wire : WireState). wire ≡ nothing_told (Some (is.2).listen)) AnySecond is.2 is.1 (moments_of clock) (moments_of c.serve_words-served.new.clock) so.0) c.new-clock.ensures is.5,
+      subst (λ (clock : List ℕ). IsServed (SystemGives is.2) (SystemAges is.2) (λ (wire : WireState). wire ≡ nothing_told (Some (is.2).listen)) AnySecond AttendsSocket is.2 is.1 (moments_of clock) (moments_of c.serve_words-served.new.clock) so.0) c.new-clock.ensures is.5,
       is.6,
     )

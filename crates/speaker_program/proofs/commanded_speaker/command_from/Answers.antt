@@ -1,12 +1,15 @@
-use Rattle.speaker_program.proofs.Commanding.{obeys_text}
-use Rattle.speaker_program.proofs.OtherFaults.{commands_are_other}
+use Rattle.speaker_program.proofs.Commanding.{commanded_as_told, obeys_if_ok, unread_commands}
+use Rattle.speaker_program.proofs.OtherFaults.{unread_is_other}
 use Rattle.speaker_program.proofs.commanded_speaker.command_from.Goals as goal
 
-pub returns-in-Ok-clause-obeys : goal.returns-in-Ok-clause-obeys
-returns-in-Ok-clause-obeys g c = obeys_text (g.R.Read.remaining c.args.reader) _ _ c.in-Ok.ensures.each c.in-Ok.ensures.some
+pub returns-in_err-text-clause-fault : goal.returns-in_err-text-clause-fault
+returns-in_err-text-clause-fault g c = unread_is_other c.from_residual.result c.in_err-text.field-0.0 c.from_residual.ensures.1 c.in_err-text.ensures.fault
 
-pub returns-in-Err-clause-fault : goal.returns-in-Err-clause-fault
-returns-in-Err-clause-fault g c = commands_are_other _ _ c.bad_commands.ensures
+pub returns-in_err-text-clause-each : goal.returns-in_err-text-clause-each
+returns-in_err-text-clause-each g c = λ text is. unread_commands _ c.from_residual.result c.in_err-text.field-0.0 _ _ c.from_residual.ensures.1 c.in_err-text.ensures.fault
 
-pub returns-in-Err-clause-each : goal.returns-in-Err-clause-each
-returns-in-Err-clause-each g c = λ text is. (c.in-Err.why, c.bad_commands.ensures, c.in-Err.ensures.each text is)
+pub returns-clause-each : goal.returns-clause-each
+returns-clause-each g c = λ text is. commanded_as_told (g.R.Read.remaining c.args.reader) c.in_ok-text.text.items text c.obey_text.result _ _ c.in_ok-text.ensures.text (rw c.as_slice.ensures.value at c.obey_text.ensures.obeys) is
+
+pub returns-clause-obeys : goal.returns-clause-obeys
+returns-clause-obeys g c = obeys_if_ok (g.R.Read.remaining c.args.reader) c.in_ok-text.text.items c.obey_text.result _ _ c.in_ok-text.ensures.text (rw c.as_slice.ensures.value at c.obey_text.ensures.obeys)
