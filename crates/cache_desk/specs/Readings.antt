@@ -2,7 +2,7 @@
 use Rattle.std.specs.Prelude.{◌≡◌, ◌≢◌, ◌==◌, ◌⊎◌, ◌++◌, ◌∷◌, [], ℕ, Bool, true, false, not, is_some, List, Option, None, Some, codes}
 use Rattle.cache_watch.specs.Outcomes.{count_refused}
 use Rattle.cache_watch.specs.declared.reread.Reread.{Reread as Led}
-use Rattle.cache_watch.specs.declared.reread.Reread.TheVariants.{Refused, Same, Published}
+use Rattle.cache_watch.specs.declared.reread.Reread.TheVariants.{Refused, Same, Unchanged, Published}
 use Rattle.cache_desk.specs.declared.line.Line.{Line}
 use Rattle.cache_desk.specs.declared.line.Line.TheVariants.{Show, Read, Stop, Bad}
 use Rattle.cache_desk.specs.declared.reading.Reading.{Reading}
@@ -43,6 +43,7 @@ abbrev pub is_refused : Option Led → Bool
 is_refused None = false
 is_refused (Some (Refused why)) = is_some (count_refused why)
 is_refused (Some Same) = false
+is_refused (Some Unchanged) = false
 is_refused (Some (Published serial)) = false
 
 -- the guards may be set aside where they refused the list when it was read last

@@ -252,7 +252,7 @@ fn is_refused(last: Option<Reread>) -> bool
 fn write_outcome(led: Reread, payloads: usize, page: &mut Vec<u8>) -> io::Result<()> {
     match led {
         Reread::Refused(why) => writeln!(page, "refused: {why}"),
-        Reread::Same => writeln!(page, "ok the same {payloads} payloads"),
+        Reread::Same | Reread::Unchanged => { writeln!(page, "ok the same {payloads} payloads") }
         Reread::Published(serial) => writeln!(page, "ok serial {serial} payloads {payloads}"),
     }
 }

@@ -33,8 +33,8 @@ help_of Serial = codes "Serial that is served."
 help_of Withdrawn = codes "Whether the list is withdrawn since it is stale."
 help_of Session = codes "Session id of this run."
 help_of Written = codes "Seconds since the list was written, by its metadata or else its file."
-help_of Read = codes "Seconds since a list was read that could be had."
-help_of Rereads = codes "Readings of the list behind the first by what each led to."
+help_of Read = codes "Seconds since the list that is served was in its file."
+help_of Rereads = codes "How often the list was due or asked for behind the first by what each led to."
 help_of Octets = codes "Octets that came from routers and that went to them."
 help_of Lost = codes "Connections of routers that are over."
 help_of Closed = codes "Connections of routers that were closed from here."
@@ -95,7 +95,7 @@ as_number false = 0
 unfoldable pub list_text : CacheFigures → RunFigures → Option ℕ → List ℕ
 list_text cache run age =
     if_told_text Written age ++ figure_text Read cache.read ++ figure_text Withdrawn (as_number cache.withdrawn)
-    ++ labelled_text Rereads (codes "outcome") ((codes "taken", run.taken) ∷ (codes "same", run.same) ∷ (codes "refused", run.refused) ∷ [])
+    ++ labelled_text Rereads (codes "outcome") ((codes "taken", run.taken) ∷ (codes "same", run.same) ∷ (codes "unchanged", run.unchanged) ∷ (codes "refused", run.refused) ∷ [])
 
 -- the routers
 unfoldable pub routers_text : CacheFigures → List ℕ

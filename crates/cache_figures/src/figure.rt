@@ -57,8 +57,9 @@ impl Figure {
             Figure::Session => "Session id of this run.",
             Figure::Written =>
                 "Seconds since the list was written, by its metadata or else its file.",
-            Figure::Read => "Seconds since a list was read that could be had.",
-            Figure::Rereads => "Readings of the list behind the first by what each led to.",
+            Figure::Read => "Seconds since the list that is served was in its file.",
+            Figure::Rereads =>
+                "How often the list was due or asked for behind the first by what each led to.",
             Figure::Octets => "Octets that came from routers and that went to them.",
             Figure::Lost => "Connections of routers that are over.",
             Figure::Closed => "Connections of routers that were closed from here.",

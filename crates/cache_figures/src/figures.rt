@@ -71,18 +71,21 @@ pub enum Outcome {
     Taken,
     /// It is the one that is served.
     Same,
+    /// Its files are unchanged, and weren't read.
+    Unchanged,
     /// It can't be had.
     Refused,
 }
 
-/// What a run has counted: its turns, and its readings of the list behind the first, by what each led to. A count stays at the
-/// greatest u64.
+/// What a run has counted: its turns, and how often the list was looked at behind the first, by what each led to. A count stays
+/// at the greatest u64.
 #[derive(Clone, Copy, Debug, PartialEq, Eq)]
 pub struct RunFigures {
     pub session: u16,
     pub turns: u64,
     pub taken: u64,
     pub same: u64,
+    pub unchanged: u64,
     pub refused: u64,
 }
 
@@ -96,6 +99,7 @@ impl RunFigures {
             turns: 0,
             taken: 0,
             same: 0,
+            unchanged: 0,
             refused: 0,
         }
     }
@@ -109,6 +113,7 @@ impl RunFigures {
             None => {}
             Some(Outcome::Taken) => self.taken = self.taken.saturating_add(1),
             Some(Outcome::Same) => self.same = self.same.saturating_add(1),
+            Some(Outcome::Unchanged) => self.unchanged = self.unchanged.saturating_add(1),
             Some(Outcome::Refused) => self.refused = self.refused.saturating_add(1),
         }
     }

@@ -56,6 +56,7 @@ fn write_list<A: Allocator>(
     let rereads = [
         ("taken", run.taken),
         ("same", run.same),
+        ("unchanged", run.unchanged),
         ("refused", run.refused),
     ];
     write_labelled(text, Figure::Rereads, "outcome", &rereads)

@@ -1,5 +1,5 @@
 -- A served list before its first turn, and one that was served.
-use Rattle.std.proofs.Common.{◌≡◌, ℕ, Bool, true, false, List, [], ◌∷◌, Option, Result, Ok, if◌then◌else◌, is_some, length, sym, subst, ap, ◌∙◌}
+use Rattle.std.proofs.Common.{◌≡◌, ℕ, Bool, true, false, List, [], ◌∷◌, Option, Some, Result, Ok, is_some, length, sym, subst, ap, ◌∙◌}
 use Rattle.std.specs.declared.net.socket_addr.SocketAddr.{SocketAddr}
 use Rattle.cache_turns.proofs.Listening.{listens_on}
 use Rattle.cache_turns.specs.Turns.{Turns}
@@ -11,25 +11,26 @@ use Rattle.wires.specs.Wires.{WireState, nothing_told}
 use Rattle.cache_settings.specs.declared.settings.CacheSettings.{CacheSettings}
 use Rattle.payload_sources.specs.PayloadSources.{SourceTexts}
 use Rattle.payload_sources.specs.declared.fault.SourceFile.{SourceFile}
+use Rattle.payload_sources.specs.declared.opening.SourceStamps.{SourceStamps}
 use Rattle.cache_program.proofs.Newest.{newest_set-kept_after}
 use Rattle.cache_program.proofs.ServedTurns.{served_are_steps}
 use Rattle.cache_program.proofs.SystemFiles.{ages_as}
 use Rattle.cache_program.specs.FirstList.{IsFirst}
 use Rattle.cache_program.specs.Opened.{AgesBy, SystemAges}
-use Rattle.log_lines.specs.Passing.{have_passed}
+use Rattle.cache_program.specs.Intervals.{is_due_at, since_after}
 use Rattle.cache_program.specs.Rereads.{IsNewest, RereadsWhenDue, Served, newest_set}
 use Rattle.cache_program.specs.ServedTurns.{AreOfAge, IsBegun, IsServed, Moment, ServesAll, ServesOnce, ServesSoMany, count_accepted, is_read}
 use Rattle.cache_watch.specs.declared.reread.Reread.{Reread}
 use Rattle.cache_watch.specs.declared.telling.FileAge.{FileAge}
 
 -- the set that is published first is that of the newest version
-pub first_is_newest_set : (Lists : Result SourceTexts SourceFile → Type 0) (guards : Guards) (kept : List Version) (serial : ℕ) (set : List Vrp) (written : Written) → IsFirst Lists guards kept serial set written → set ≡ newest_set kept
-first_is_newest_set Lists guards kept serial set written first = sym (ap newest_set first.kept_is ∙ newest_set-kept_after [] set)
+pub first_is_newest_set : (Lists : Result SourceTexts SourceFile → Type 0) (guards : Guards) (kept : List Version) (serial : ℕ) (set : List Vrp) (written : Written) (stamps : Option SourceStamps) → IsFirst Lists guards kept serial set written stamps → set ≡ newest_set kept
+first_is_newest_set Lists guards kept serial set written stamps first = sym (ap newest_set first.kept_is ∙ newest_set-kept_after [] set)
 
-pub first_is_newest : (Lists : Result SourceTexts SourceFile → Type 0) (guards : Guards) (kept : List Version) (serial : ℕ) (set : List Vrp) (written : Written) → IsFirst Lists guards kept serial set written → IsNewest kept serial (length set)
-first_is_newest Lists guards kept serial set written first = record {
+pub first_is_newest : (Lists : Result SourceTexts SourceFile → Type 0) (guards : Guards) (kept : List Version) (serial : ℕ) (set : List Vrp) (written : Written) (stamps : Option SourceStamps) → IsFirst Lists guards kept serial set written stamps → IsNewest kept serial (length set)
+first_is_newest Lists guards kept serial set written stamps first = record {
   serial_is = first.serial_is;
-  payloads_are = ap (λ (payloads : List Vrp). length payloads) (first_is_newest_set Lists guards kept serial set written first);
+  payloads_are = ap (λ (payloads : List Vrp). length payloads) (first_is_newest_set Lists guards kept serial set written stamps first);
 }
 
 -- it began, and then so many turns were taken
@@ -49,24 +50,24 @@ attended_as Lists Ages Attends Attended reread count before behind old new so se
     record { moments = serves.moments; serves = serves.serves; aged = serves.aged; attends = so serves.moments serves.attends; told = serves.told; forward = serves.forward; few = serves.few }
 
 -- the same, as others say what the system has answered
-due_as : (Lists Others : Result SourceTexts SourceFile → Type 0) → ((sources : Result SourceTexts SourceFile) → Lists sources → Others sources) → (accepts : Option ℕ) (is_due : Bool) (now : ℕ) (age : FileAge) (old : Served) (answer : Option Reread) (new : Served) → RereadsWhenDue Lists accepts is_due now age old answer new → RereadsWhenDue Others accepts is_due now age old answer new
-due_as Lists Others so accepts false now age old answer new none = none
-due_as Lists Others so accepts true now age old answer new rereads = (rereads.0, rereads.1, rereads.2, so rereads.2 rereads.3, rereads.4)
+due_as : (Lists Others : Result SourceTexts SourceFile → Type 0) → ((sources : Result SourceTexts SourceFile) → Lists sources → Others sources) → (is_asked : Bool) (accepts : Option ℕ) (is_due : Bool) (now : ℕ) (age : FileAge) (old : Served) (answer : Option Reread) (new : Served) → RereadsWhenDue Lists is_asked accepts is_due now age old answer new → RereadsWhenDue Others is_asked accepts is_due now age old answer new
+due_as Lists Others so is_asked accepts false now age old answer new none = none
+due_as Lists Others so is_asked accepts true now age old answer new rereads = (rereads.0, rereads.1, rereads.2, so rereads.2 rereads.3, rereads.4)
 
 once_as : (Lists Others : Result SourceTexts SourceFile → Type 0) → ((sources : Result SourceTexts SourceFile) → Lists sources → Others sources) → (is_due : Bool) (at : Moment) (old new : Served) → ServesOnce Lists is_due at old new → ServesOnce Others is_due at old new
 once_as Lists Others so is_due at old new once = record {
   between = once.between;
   left = once.left;
-  rereads = due_as Lists Others so (count_accepted at.asked old) (is_read at.asked is_due) at.now at.age old at.led once.between once.rereads;
+  rereads = due_as Lists Others so (is_some at.asked) (count_accepted at.asked old) (is_read at.asked is_due) at.now at.age old at.led once.between once.rereads;
   withdraws = once.withdraws;
   takes = once.takes;
   same = once.same;
 }
 
-all_as : (Lists Others : Result SourceTexts SourceFile → Type 0) → ((sources : Result SourceTexts SourceFile) → Lists sources → Others sources) → (seconds : Option ℕ) (last : ℕ) (moments : List Moment) (old new : Served) → ServesAll Lists seconds last moments old new → ServesAll Others seconds last moments old new
-all_as Lists Others so seconds last [] old new same = same
-all_as Lists Others so seconds last (at ∷ moments) old new all =
-    (all.0, once_as Lists Others so (have_passed seconds last at.now) at old all.0 all.1, all_as Lists Others so seconds (if have_passed seconds last at.now then at.now else last) moments all.0 new all.2)
+all_as : (Lists Others : Result SourceTexts SourceFile → Type 0) → ((sources : Result SourceTexts SourceFile) → Lists sources → Others sources) → (seconds since : Option ℕ) (moments : List Moment) (old new : Served) → ServesAll Lists seconds since moments old new → ServesAll Others seconds since moments old new
+all_as Lists Others so seconds since [] old new same = same
+all_as Lists Others so seconds since (at ∷ moments) old new all =
+    (all.0, once_as Lists Others so (is_due_at seconds since at.now) at old all.0 all.1, all_as Lists Others so seconds (since_after since at.now at.led) moments all.0 new all.2)
 
 aged_as : (Ages Told : FileAge → Type 0) → ((age : FileAge) → Ages age → Told age) → (moments : List Moment) → AreOfAge Ages moments → AreOfAge Told moments
 aged_as Ages Told so [] aged = tt
@@ -90,7 +91,7 @@ served_as Lists Others Ages Aged Wires Opened Seconds Told Attends Attended sett
         age = begun.age;
         told = seconds begun.second begun.told;
         of_settings = begun.of_settings;
-        first = record { sources = begun.first.sources; given = lists (Ok begun.first.sources) begun.first.given; passes = begun.first.passes; says = begun.first.says; kept_is = begun.first.kept_is; serial_is = begun.first.serial_is };
+        first = record { sources = begun.first.sources; given = lists (Ok begun.first.sources) begun.first.given; passes = begun.first.passes; says = begun.first.says; known = begun.first.known; kept_is = begun.first.kept_is; serial_is = begun.first.serial_is };
         payloads = begun.payloads;
         guards = begun.guards;
         accepted = begun.accepted;
@@ -104,7 +105,7 @@ served_as Lists Others Ages Aged Wires Opened Seconds Told Attends Attended sett
       };
       takes = record {
         moments = is.takes.moments;
-        serves = all_as Lists Others lists settings.reread 0 is.takes.moments is.begun served is.takes.serves;
+        serves = all_as Lists Others lists settings.reread (Some 0) is.takes.moments is.begun served is.takes.serves;
         aged = aged_as Ages Aged ages is.takes.moments is.takes.aged;
         attends = attends is.takes.moments is.takes.attends;
         told = is.takes.told;
@@ -124,5 +125,5 @@ aged_by_system Lists Answered Wires Seconds Attends settings count before behind
 pub listens_there : (Lists : Result SourceTexts SourceFile → Type 0) (Ages : FileAge → Type 0) (Seconds : ℕ → Type 0) (Attends : CacheSettings → ℕ → List Moment → Type 0) (settings : CacheSettings) (count : ℕ) (before behind : List ℕ) (served : Served) (listens : Option SocketAddr)
     → IsServed Lists Ages (λ wire. wire ≡ nothing_told listens) Seconds Attends settings count before behind served → served.turns.counts.wire.listens ≡ listens
 listens_there Lists Ages Seconds Attends settings count before behind served listens is =
-    let steps = served_are_steps Lists settings.reread 0 is.takes.moments is.begun served is.takes.serves in
+    let steps = served_are_steps Lists settings.reread (Some 0) is.takes.moments is.begun served is.takes.serves in
     listens_on steps.0 is.begun.turns served.turns steps.1 ∙ (ap (λ (t : Turns). t.counts.wire.listens) is.begins.turns ∙ ap (λ (w : WireState). w.listens) is.begins.listens)

@@ -1,5 +1,5 @@
 -- What is served behind each moment is guarded.
-use Rattle.std.proofs.Common.{◌≡◌, ◌⊎◌, inl, inr, ℕ, Bool, true, false, List, [], ◌∷◌, Option, None, Some, Result, Ok, Err, if◌then◌else◌, is_some, refl, sym, ap, subst, ◌∙◌}
+use Rattle.std.proofs.Common.{◌≡◌, ◌⊎◌, ◌&&◌, inl, inr, ℕ, Bool, true, false, not, List, [], ◌∷◌, Option, None, Some, Result, Ok, Err, is_some, refl, sym, ap, subst, ◌∙◌}
 use Rattle.std.proofs.lemmas.Bool.{false≢true}
 use Rattle.cache_turns.proofs.Keeping.{turn_keeps, withdrawing_keeps}
 use Rattle.list_guards.proofs.Passing.{passes}
@@ -18,14 +18,14 @@ use Rattle.payload_sources.specs.declared.fault.SourceFile.{SourceFile}
 use Rattle.cache_program.proofs.Attending.{all_taken, closed_desk}
 use Rattle.cache_program.proofs.Begun.{first_is_newest_set}
 use Rattle.cache_program.proofs.Newest.{newest_set-kept_after}
-use Rattle.log_lines.specs.Passing.{have_passed}
+use Rattle.cache_program.specs.Intervals.{is_due_at, since_after}
 use Rattle.cache_program.specs.AttendedTurns.{AttendsOperators, AttendsTurns}
-use Rattle.cache_program.specs.Rereads.{age_told, HandsIn, KeepsCount, Publishes, Rereads, RereadsFile, RereadsWhenDue, Served, WithdrawsWhere, is_stale, newest_set, served_set, versions}
+use Rattle.cache_program.specs.Rereads.{age_told, HandsIn, IsKept, IsKeptOrRereads, KeepsCount, Publishes, Rereads, RereadsFile, RereadsWhenDue, Served, WithdrawsWhere, is_stale, newest_set, served_set, stands, versions}
 use Rattle.cache_program.specs.ServedTurns.{IsBegun, IsServed, Moment, NobodyAsks, ServesAll, ServesOnce, count_accepted, is_read}
 use Rattle.cache_watch.specs.declared.reread.ListFault.{ListFault}
 use Rattle.cache_watch.specs.declared.reread.ListFault.TheVariants.{NoFile}
 use Rattle.cache_watch.specs.declared.reread.Reread.{Reread}
-use Rattle.cache_watch.specs.declared.reread.Reread.TheVariants.{Refused, Same, Published}
+use Rattle.cache_watch.specs.declared.reread.Reread.TheVariants.{Refused, Same, Unchanged, Published}
 use Rattle.cache_watch.specs.declared.telling.FileAge.{FileAge}
 
 -- a set has as many payloads as are wanted, and no more than may be
@@ -73,20 +73,33 @@ stays_handed may accepts now age set old under new allowed handed = record { gua
 stays_published : (may : Bool) (accepts : Option ℕ) (now age : ℕ) (set : List Vrp) (old : Served) (led : Reread) (new : Served) → (is_some accepts ≡ true → may ≡ true) → Publishes accepts now age set old led new → Stays may old new
 stays_published may accepts now age set old (Refused why) new allowed refused = stays_refused may why old new refused.1
 stays_published may accepts now age set old Same new allowed same = stays_handed may accepts now age set old _ new allowed same.2
+stays_published may accepts now age set old Unchanged new allowed never = absurd never
 stays_published may accepts now age set old (Published serial) new allowed published = stays_handed may accepts now age set old serial new allowed published.2
 
 stays_by_file : (may : Bool) (accepts : Option ℕ) (now : ℕ) (age : FileAge) (file : SourceTexts) (old : Served) (led : Reread) (new : Served) → (is_some accepts ≡ true → may ≡ true) → RereadsFile accepts now age file old led new → Stays may old new
 stays_by_file may accepts now age file old (Refused why) new allowed refused = stays_refused may why old new refused.1
 stays_by_file may accepts now age file old Same new allowed same = stays_published may accepts now (age_told new.written age) same.0 old Same new allowed same.2
+stays_by_file may accepts now age file old Unchanged new allowed never = absurd never
 stays_by_file may accepts now age file old (Published serial) new allowed published = stays_published may accepts now (age_told new.written age) published.0 old (Published serial) new allowed published.2
 
 stays_reread : (may : Bool) (accepts : Option ℕ) (now : ℕ) (age : FileAge) (sources : Result SourceTexts SourceFile) (old : Served) (led : Reread) (new : Served) → (is_some accepts ≡ true → may ≡ true) → Rereads accepts now age sources old led new → Stays may old new
 stays_reread may accepts now age (Err file) old led new allowed none = stays_refused may (NoFile file) old new none.1
 stays_reread may accepts now age (Ok file) old led new allowed rereads = stays_by_file may accepts now age file old led new allowed rereads
 
-stays_due : (Lists : Result SourceTexts SourceFile → Type 0) (may : Bool) (accepts : Option ℕ) (is_due : Bool) (now : ℕ) (age : FileAge) (old : Served) (answer : Option Reread) (new : Served) → (is_some accepts ≡ true → may ≡ true) → RereadsWhenDue Lists accepts is_due now age old answer new → Stays may old new
-stays_due Lists may accepts false now age old answer new allowed none = stays_same may old new none.1
-stays_due Lists may accepts true now age old answer new allowed rereads = stays_reread may accepts now age rereads.2 old rereads.0 new allowed rereads.4
+-- so does what was read last
+stays_kept : (may : Bool) (now : ℕ) (age : FileAge) (old new : Served) → IsKept now age old new → Stays may old new
+stays_kept may now age old new kept = record {
+  guards = ap (λ (s : Served). s.guards) kept;
+  well = λ well. subst (λ (s : Served). IsWell may old.guards s) (sym kept) well;
+}
+
+stays_looked : (may stands : Bool) (accepts : Option ℕ) (now : ℕ) (age : FileAge) (sources : Result SourceTexts SourceFile) (old : Served) (led : Reread) (new : Served) → (is_some accepts ≡ true → may ≡ true) → IsKeptOrRereads stands accepts now age sources old led new → Stays may old new
+stays_looked may true accepts now age sources old led new allowed kept = stays_kept may now age old new kept.1
+stays_looked may false accepts now age sources old led new allowed rereads = stays_reread may accepts now age sources old led new allowed rereads
+
+stays_due : (Lists : Result SourceTexts SourceFile → Type 0) (may is_asked : Bool) (accepts : Option ℕ) (is_due : Bool) (now : ℕ) (age : FileAge) (old : Served) (answer : Option Reread) (new : Served) → (is_some accepts ≡ true → may ≡ true) → RereadsWhenDue Lists is_asked accepts is_due now age old answer new → Stays may old new
+stays_due Lists may is_asked accepts false now age old answer new allowed none = stays_same may old new none.1
+stays_due Lists may is_asked accepts true now age old answer new allowed rereads = stays_looked may (stands age rereads.2 old && not is_asked) accepts now age rereads.2 old rereads.0 new allowed rereads.4
 
 -- it is so as long as the set stays, and who accepted it
 well_behind : (may : Bool) (guards : Guards) (old new : Served) → served_set new ≡ served_set old → new.accepted ≡ old.accepted → IsWell may guards old → IsWell may guards new
@@ -110,7 +123,7 @@ withdrawn_keeps true old new withdraws = record {
 -- a turn publishes nothing
 stays_once : (Lists : Result SourceTexts SourceFile → Type 0) (may : Bool) (is_due : Bool) (at : Moment) (old new : Served) → (is_some (count_accepted at.asked old) ≡ true → may ≡ true) → ServesOnce Lists is_due at old new → Stays may old new
 stays_once Lists may is_due at old new allowed once =
-    let between = stays_due Lists may (count_accepted at.asked old) (is_read at.asked is_due) at.now at.age old at.led once.between allowed once.rereads in
+    let between = stays_due Lists may (is_some at.asked) (count_accepted at.asked old) (is_read at.asked is_due) at.now at.age old at.led once.between allowed once.rereads in
     let left = withdrawn_keeps (is_stale at.now once.between) once.between once.left once.withdraws in
     let kept = (turn_keeps at.now once.left.turns new.turns (Ok tt) once.takes).0 in
     record {
@@ -124,17 +137,17 @@ only_where_one_may true asked served none accepted = refl
 only_where_one_may false asked served none accepted = absurd (false≢true (sym (ap (λ (a : Option Reading). is_some (count_accepted a served)) (none refl)) ∙ accepted))
 
 -- behind all moments
-all_well : (Lists : Result SourceTexts SourceFile → Type 0) (seconds : Option ℕ) (may : Bool) (last : ℕ) (moments : List Moment) (guards : Guards) (old new : Served) → ServesAll Lists seconds last moments old new
+all_well : (Lists : Result SourceTexts SourceFile → Type 0) (seconds : Option ℕ) (may : Bool) (since : Option ℕ) (moments : List Moment) (guards : Guards) (old new : Served) → ServesAll Lists seconds since moments old new
     → (may ≡ false → NobodyAsks moments) → old.guards ≡ guards → IsWell may guards old → IsWell may guards new
-all_well Lists seconds may last [] guards old new same nobody is well = subst (λ (s : Served). IsWell may guards s) (sym same) well
-all_well Lists seconds may last (at ∷ moments) guards old new all nobody is well =
-    let stays = stays_once Lists may (have_passed seconds last at.now) at old all.0 (only_where_one_may may at.asked old (λ off. (nobody off).0)) all.1 in
-    all_well Lists seconds may (if have_passed seconds last at.now then at.now else last) moments guards all.0 new all.2 (λ off. (nobody off).1) (stays.guards ∙ is)
+all_well Lists seconds may since [] guards old new same nobody is well = subst (λ (s : Served). IsWell may guards s) (sym same) well
+all_well Lists seconds may since (at ∷ moments) guards old new all nobody is well =
+    let stays = stays_once Lists may (is_due_at seconds since at.now) at old all.0 (only_where_one_may may at.asked old (λ off. (nobody off).0)) all.1 in
+    all_well Lists seconds may (since_after since at.now at.led) moments guards all.0 new all.2 (λ off. (nobody off).1) (stays.guards ∙ is)
     (subst (λ (g : Guards). IsWell may g all.0) is (stays.well (subst (λ (g : Guards). IsWell may g old) (sym is) well)))
 
 first_within : (Lists : Result SourceTexts SourceFile → Type 0) (Ages : FileAge → Type 0) (Wires : WireState → Type 0) (Seconds : ℕ → Type 0) (settings : CacheSettings) (served : Served) → IsBegun Lists Ages Wires Seconds settings served → IsWithin settings.guards (served_set served)
 first_within Lists Ages Wires Seconds settings served begun =
-    let newest = first_is_newest_set Lists settings.guards begun.cache.shared.kept served.serial begun.set served.written begun.first in
+    let newest = first_is_newest_set Lists settings.guards begun.cache.shared.kept served.serial begun.set served.written served.stamps begun.first in
     subst (λ (set : List Vrp). IsWithin settings.guards set)
     (newest ∙ sym (ap (λ (turns : Turns). newest_set turns.cache.shared.kept) begun.turns))
     (within settings.guards [] begun.set begun.first.passes.1)
@@ -148,7 +161,7 @@ module _ {P : Type 0} (wish : P → ℕ → Wish) (line : P → ℕ → List ℕ
   pub served_well : (Lists : Result SourceTexts SourceFile → Type 0) (Ages : FileAge → Type 0) (Wires : WireState → Type 0) (Seconds : ℕ → Type 0) (settings : CacheSettings) (count : ℕ) (before behind : List ℕ) (served : Served)
       → IsServed Lists Ages Wires Seconds (AttendsOperators wish line goes hears Gives) settings count before behind served → IsWell (is_some settings.control) settings.guards served
   served_well Lists Ages Wires Seconds settings count before behind served is =
-      all_well Lists settings.reread (is_some settings.control) 0 is.takes.moments settings.guards is.begun served is.takes.serves (nobody_at settings count is.takes.moments is.takes.attends) is.begins.guards (inr (first_within Lists Ages Wires Seconds settings is.begun is.begins))
+      all_well Lists settings.reread (is_some settings.control) (Some 0) is.takes.moments settings.guards is.begun served is.takes.serves (nobody_at settings count is.takes.moments is.takes.attends) is.begins.guards (inr (first_within Lists Ages Wires Seconds settings is.begun is.begins))
 
 -- and of each count alone
 enough_of : (may : Bool) (guards : Guards) (s : Served) → IsWell may guards s → ((may ≡ true) × (s.accepted ≡ true)) ⊎ HasEnough guards (served_set s)

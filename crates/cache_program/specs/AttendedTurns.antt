@@ -1,6 +1,6 @@
 -- What becomes of operators in turns of a served list (own): they are heard in front of what is done at a moment, and told behind
 -- it what reading the list has led to; `stop` alone ends the turns early.
-use Rattle.std.specs.Prelude.{◌≡◌, ◌⊎◌, ◌++◌, ℕ, Bool, true, false, List, [], ◌∷◌, Option, None, Some, String, length, option_map, string_bytes, ⊤}
+use Rattle.std.specs.Prelude.{◌≡◌, ◌⊎◌, ◌++◌, ℕ, Bool, true, false, List, [], ◌∷◌, Option, None, Some, String, length, option_map, string_bytes}
 use Rattle.std.specs.declared.alloc.Global.{Global}
 use Rattle.control_lines.specs.declared.talk.Wish.{Wish}
 use Rattle.control_sockets.specs.Places.{HearsAt as IsHeardAt, Turns as VisitsAll, line_at, wish_at}
@@ -62,7 +62,7 @@ module _ {P : Type 0} (wish : P → ℕ → Wish) (line : P → ℕ → List ℕ
     pub opened : IsDeskOf Gives settings.control desk
     pub takes : AttendsTurns desk left count moments
 
--- operators at a Unix socket
+-- operators at a Unix socket that was opened at the path
 abbrev pub AttendsSocket : CacheSettings → ℕ → List Moment → Type 0
 AttendsSocket = AttendsOperators {P = ControlSocket} (λ socket. wish_at socket.places.items) (λ socket. line_at socket.places.items) (λ now old new. VisitsAll now old.places.items new.places.items)
-    (λ key octets goes_on old new. IsHeardAt key octets goes_on old.places.items new.places.items) (λ path socket. ⊤)
+    (λ key octets goes_on old new. IsHeardAt key octets goes_on old.places.items new.places.items) (λ path socket. string_bytes socket.path ≡ path)

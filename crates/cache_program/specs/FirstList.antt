@@ -1,10 +1,11 @@
 -- The list with which a cache begins (own).
-use Rattle.std.specs.Prelude.{◌≡◌, ℕ, List, [], Some, None, Result, Ok}
+use Rattle.std.specs.Prelude.{◌≡◌, ℕ, List, [], Option, Some, None, Result, Ok}
 use Rattle.list_guards.specs.Guarding.{guard_fault}
 use Rattle.list_guards.specs.declared.Guards.{Guards}
 use Rattle.net_prefix.specs.declared.payload.Vrp.{Vrp}
 use Rattle.payload_sources.specs.PayloadSources.{IsRefused, IsSetOf, SaysWritten, SourceTexts}
 use Rattle.payload_sources.specs.declared.fault.SourceFile.{SourceFile}
+use Rattle.payload_sources.specs.declared.opening.SourceStamps.{SourceStamps}
 use Rattle.vrp_json.specs.declared.written.Written.{Written}
 use Rattle.vrp_delta.specs.Versions.{Version, kept_after, newest_serial}
 use Rattle.cache_watch.specs.declared.reread.ListFault.{ListFault}
@@ -25,11 +26,12 @@ IsNoFirst guards sources (Other payloads refused) = ⊥
 IsNoFirst guards sources NoMemory = ⊥
 
 -- what a cache has published then: the set of files that the system gave, which the guards let pass, of a list that says that
--- it was written then
-pub record IsFirst (Lists : Result SourceTexts SourceFile → Type 0) (guards : Guards) (kept : List Version) (serial : ℕ) (set : List Vrp) (written : Written) : Type 0 where
+-- it was written then, and of files that have these stamps
+pub record IsFirst (Lists : Result SourceTexts SourceFile → Type 0) (guards : Guards) (kept : List Version) (serial : ℕ) (set : List Vrp) (written : Written) (stamps : Option SourceStamps) : Type 0 where
   pub sources : SourceTexts
   pub given : Lists (Ok sources)
   pub passes : Passes guards sources set
   pub says : SaysWritten sources written
+  pub known : stamps ≡ sources.stamps
   pub kept_is : kept ≡ kept_after [] set
   pub serial_is : serial ≡ newest_serial kept

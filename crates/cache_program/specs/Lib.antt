@@ -5,6 +5,7 @@ pub mod Endings
 pub mod Exits
 pub mod Figures
 pub mod FirstList
+pub mod Intervals
 pub mod Opened
 pub mod Rereads
 pub mod ServedTurns

@@ -3,6 +3,7 @@
 use Rattle.std.specs.Prelude.{◌≡◌, ℕ, List, Option, None, Some, Result, Ok, Err, option_map, string_bytes, ⊤, if◌then◌else◌}
 use Rattle.toml.specs.Data.{Members}
 use Rattle.file_paths.specs.OpenedFiles.{AreOctetsOf, OpenedFile}
+use Rattle.file_paths.specs.declared.steady.Stamp.{Stamp}
 use Rattle.settings_keys.specs.Keys.{IsTableOf}
 use Rattle.wires.specs.Wires.{WireState}
 use Rattle.payload_sources.specs.OpenedSources.{Opens}
@@ -20,21 +21,21 @@ expiring_at settings second = if settings.expires then Some second else None
 
 -- the texts of the settings' files, the list and the SLURM file where there is one, or which of them couldn't be opened, as
 -- answers to their paths have it; they are read at this second
-abbrev pub GivesAt : {L E : Type 0} → (List ℕ → Result L E → Type 0) → (L → Option (List ℕ)) → CacheSettings → ℕ → Result SourceTexts SourceFile → Type 0
-GivesAt Answers remaining settings second sources = Opens Answers remaining (expiring_at settings second) (string_bytes settings.csv) (option_map string_bytes settings.slurm) sources
+abbrev pub GivesAt : {L E : Type 0} → (List ℕ → Result L E → Type 0) → (L → Option (List ℕ)) → (L → Option Stamp) → CacheSettings → ℕ → Result SourceTexts SourceFile → Type 0
+GivesAt Answers remaining stamp settings second sources = Opens Answers remaining stamp (expiring_at settings second) (string_bytes settings.csv) (option_map string_bytes settings.slurm) sources
 
 -- at some second
-abbrev pub Gives : {L E : Type 0} → (List ℕ → Result L E → Type 0) → (L → Option (List ℕ)) → CacheSettings → Result SourceTexts SourceFile → Type 0
-Gives Answers remaining settings sources = (second : ℕ) × GivesAt Answers remaining settings second sources
+abbrev pub Gives : {L E : Type 0} → (List ℕ → Result L E → Type 0) → (L → Option (List ℕ)) → (L → Option Stamp) → CacheSettings → Result SourceTexts SourceFile → Type 0
+Gives Answers remaining stamp settings sources = (second : ℕ) × GivesAt Answers remaining stamp settings second sources
 
 -- a file that was opened at the path, or none
 abbrev pub IsOpenedAt : List ℕ → Result OpenedFile (Unit {0}) → Type 0
 IsOpenedAt path (Ok file) = file.path ≡ path
 IsOpenedAt path (Err none) = ⊤
 
--- the texts of the settings' files, as the system opens them at their paths
+-- the texts of the settings' files, with their stamps, as the system opens them at their paths
 abbrev pub SystemGives : CacheSettings → Result SourceTexts SourceFile → Type 0
-SystemGives settings sources = Gives IsOpenedAt (λ file. file.text) settings sources
+SystemGives settings sources = Gives IsOpenedAt (λ file. file.text) (λ file. file.stamp) settings sources
 
 -- the settings are those that octets tell, which are those of the text, where that is known
 pub record AreSettingsOf (text : Option (List ℕ)) (settings : CacheSettings) : Type 0 where

@@ -1,12 +1,14 @@
 -- Reading the list again (own): a list that can't be had, or that a guard refuses, or that is too old, leaves everything as it is but
--- the count that an operator may accept, and any other is published, unless it is the one that is served. What is too old is withdrawn.
+-- the count that an operator may accept, and any other is published, unless it is the one that is served. Where files have the stamps
+-- of those that were read last, these stand, and aren't read. What is too old is withdrawn.
 use Rattle.std.specs.Prelude.{◌≡◌, ◌+◌, ◌-◌, ◌&&◌, ◌≢◌, ℕ, Bool, true, false, nat_le, not, List, [], ◌∷◌, Option, Some, None, Result, Ok, Err, IfSome, is_none, is_some, length, ⊤}
 use Rattle.list_guards.specs.Guarding.{guard_fault}
 use Rattle.list_guards.specs.declared.GuardFault.{GuardFault}
 use Rattle.list_guards.specs.declared.Guards.{Guards}
 use Rattle.net_prefix.specs.declared.payload.Vrp.{Vrp}
-use Rattle.payload_sources.specs.PayloadSources.{IsRefused, IsSetOf, SaysWritten, SourceTexts}
+use Rattle.payload_sources.specs.PayloadSources.{IsRefused, IsSetOf, SaysWritten, SourceTexts, same_stamps}
 use Rattle.payload_sources.specs.declared.fault.SourceFile.{SourceFile}
+use Rattle.payload_sources.specs.declared.opening.SourceStamps.{SourceStamps}
 use Rattle.rtr_cache.specs.CacheState.{tells_serial}
 use Rattle.rtr_cache.specs.ClientHistory.{Loaded as Loads, Makes}
 use Rattle.vrp_delta.specs.Versions.{Version, is_newest_set, newest_serial, serial_after}
@@ -19,7 +21,7 @@ use Rattle.wires.specs.declared.fault.LoopFault.{LoopFault}
 use Rattle.cache_watch.specs.declared.reread.ListFault.{ListFault}
 use Rattle.cache_watch.specs.declared.reread.ListFault.TheVariants.{NoFile, Source, Guard, Old, Other, NoMemory}
 use Rattle.cache_watch.specs.declared.reread.Reread.{Reread}
-use Rattle.cache_watch.specs.declared.reread.Reread.TheVariants.{Refused, Same, Published}
+use Rattle.cache_watch.specs.declared.reread.Reread.TheVariants.{Refused, Same, Unchanged, Published}
 
 -- the payloads of the newest version, and none before the first
 abbrev pub newest_set : List Version → List Vrp
@@ -28,7 +30,7 @@ newest_set (version ∷ older) = version.set
 
 -- a loop and what its cache serves: the newest serial, and how many payloads that version has. Lists have to keep to the
 -- guards, and one that could be had was read last at this moment, when it was so many seconds old; whether an operator had the
--- guards set aside for it; how many payloads the list had that was refused when it was read last, where one may accept it; how old one may be to be served, if that is said; and when the one that is served says that it was written
+-- guards set aside for it; how many payloads the list had that was refused when it was read last, where one may accept it; how old one may be to be served, if that is said; when the one that is served says that it was written; and the stamps of its files
 pub record Served : Type 0 where
   pub turns : Turns
   pub guards : Guards
@@ -40,6 +42,7 @@ pub record Served : Type 0 where
   pub age : ℕ
   pub most : Option ℕ
   pub written : Written
+  pub stamps : Option SourceStamps
 
 -- they are those of the newest version that is kept
 pub record IsNewest (kept : List Version) (serial payloads : ℕ) : Type 0 where
@@ -166,34 +169,63 @@ abbrev pub Publishes : Option ℕ → ℕ → ℕ → List Vrp → Served → Re
 Publishes accepts now age set old (Refused why) new = IsKeptOut accepts age set old why × KeepsCount why old new
 Publishes accepts now age set old Same new =
     (is_newest_set (versions old) set ≡ true) × (versions new ≡ versions old) × HandsIn accepts now age set old (newest_serial (versions old)) new
+Publishes accepts now age set old Unchanged new = ⊥
 Publishes accepts now age set old (Published serial) new =
     (is_newest_set (versions old) set ≡ false) × (serial ≡ serial_after (newest_serial (versions old))) × HandsIn accepts now age set old serial new
 
--- of a set that was handed in it is kept when its list says that it was written
-abbrev pub Notes : Written → Reread → Served → Type 0
-Notes written (Refused why) new = ⊤
-Notes written Same new = new.written ≡ written
-Notes written (Published serial) new = new.written ≡ written
+-- of a set that was handed in it is kept when its list says that it was written, and which stamps its files have
+abbrev pub Notes : Written → Option SourceStamps → Reread → Served → Type 0
+Notes written stamps (Refused why) new = ⊤
+Notes written stamps Same new = (new.written ≡ written) × (new.stamps ≡ stamps)
+Notes written stamps Unchanged new = ⊥
+Notes written stamps (Published serial) new = (new.written ≡ written) × (new.stamps ≡ stamps)
 
 -- what reading files that were opened has led to: nothing, since their set can't be had, or it was handed in
 abbrev pub RereadsFile : Option ℕ → ℕ → FileAge → SourceTexts → Served → Reread → Served → Type 0
 RereadsFile accepts now file sources old (Refused why) new = IsNoList accepts file sources old why × KeepsCount why old new
 RereadsFile accepts now file sources old Same new =
-    (set : List Vrp) × IsSetOf sources set × Publishes accepts now (age_told new.written file) set old Same new × SaysWritten sources new.written
+    (set : List Vrp) × IsSetOf sources set × Publishes accepts now (age_told new.written file) set old Same new × SaysWritten sources new.written × (new.stamps ≡ sources.stamps)
+RereadsFile accepts now file sources old Unchanged new = ⊥
 RereadsFile accepts now file sources old (Published serial) new =
-    (set : List Vrp) × IsSetOf sources set × Publishes accepts now (age_told new.written file) set old (Published serial) new × SaysWritten sources new.written
+    (set : List Vrp) × IsSetOf sources set × Publishes accepts now (age_told new.written file) set old (Published serial) new × SaysWritten sources new.written × (new.stamps ≡ sources.stamps)
 
 -- what reading the list again has led to: nothing, where a file couldn't be opened, or what reading the files has
 abbrev pub Rereads : Option ℕ → ℕ → FileAge → Result SourceTexts SourceFile → Served → Reread → Served → Type 0
 Rereads accepts now age (Err file) old answer new = (answer ≡ Refused (NoFile file)) × KeepsCount (NoFile file) old new
 Rereads accepts now age (Ok sources) old answer new = RereadsFile accepts now age sources old answer new
 
--- the list is read again just where it is due or asked for, and the SLURM file where there is one: they are what the system gives at their
--- paths then
-abbrev pub RereadsWhenDue : (Result SourceTexts SourceFile → Type 0) → Option ℕ → Bool → ℕ → FileAge → Served → Option Reread → Served → Type 0
-RereadsWhenDue Lists accepts false now age old answer new = (answer ≡ None) × (new ≡ old)
-RereadsWhenDue Lists accepts true now age old answer new =
-    (led : Reread) × (answer ≡ Some led) × (sources : Result SourceTexts SourceFile) × Lists sources × Rereads accepts now age sources old led new
+-- files have the stamps of those that the list that is served was read from
+abbrev pub are_known : Option SourceStamps → Option SourceStamps → Bool
+are_known None known = false
+are_known (Some stamps) None = false
+are_known (Some stamps) (Some known) = same_stamps stamps known
+
+-- what was read last stands: its files were opened again, each with the stamp that it had then; none of its rows expires; it is
+-- served, by leave of the guards; and it isn't too old
+abbrev pub stands : FileAge → Result SourceTexts SourceFile → Served → Bool
+stands file (Err which) served = false
+stands file (Ok sources) served =
+    is_none sources.second && are_known sources.stamps served.stamps && not served.accepted && not served.turns.cache.shared.withdrawn && not (is_older served.most (age_told served.written file))
+
+-- then nothing changes: it was there at this moment, so old, and no other one can be accepted
+abbrev pub IsKept : ℕ → FileAge → Served → Served → Type 0
+IsKept now file old new = new ≡ record old { read = now; refused = None; age = age_told old.written file }
+
+abbrev pub IsKeptOrRereads : Bool → Option ℕ → ℕ → FileAge → Result SourceTexts SourceFile → Served → Reread → Served → Type 0
+IsKeptOrRereads true accepts now age sources old led new = (led ≡ Unchanged) × IsKept now age old new
+IsKeptOrRereads false accepts now age sources old led new = Rereads accepts now age sources old led new
+
+-- what looking at files that were opened, or couldn't be, has led to: what was read last stands, or they are read again; so they are
+-- wherever an operator asks
+abbrev pub LooksAt : Bool → Option ℕ → ℕ → FileAge → Result SourceTexts SourceFile → Served → Reread → Served → Type 0
+LooksAt is_asked accepts now age sources old led new = IsKeptOrRereads (stands age sources old && not is_asked) accepts now age sources old led new
+
+-- the list is looked at again just where it is due or asked for, and the SLURM file where there is one: they are what the system gives at
+-- their paths then
+abbrev pub RereadsWhenDue : (Result SourceTexts SourceFile → Type 0) → Bool → Option ℕ → Bool → ℕ → FileAge → Served → Option Reread → Served → Type 0
+RereadsWhenDue Lists is_asked accepts false now age old answer new = (answer ≡ None) × (new ≡ old)
+RereadsWhenDue Lists is_asked accepts true now age old answer new =
+    (led : Reread) × (answer ≡ Some led) × (sources : Result SourceTexts SourceFile) × Lists sources × LooksAt is_asked accepts now age sources old led new
 
 -- a set that is too old is withdrawn, and no other
 abbrev pub WithdrawsWhere : Bool → Served → Served → Type 0
@@ -201,10 +233,10 @@ WithdrawsWhere false old new = new ≡ old
 WithdrawsWhere true old new = WithdrawsSet old.turns new.turns × (new ≡ record old { turns = new.turns })
 
 -- what is done at a moment: the list is read again where it is due or asked for, what is too old is withdrawn, and then a turn is taken
-pub record ServesAt (Lists : Result SourceTexts SourceFile → Type 0) (accepts : Option ℕ) (is_due : Bool) (now : ℕ) (age : FileAge) (old : Served) (answer : Option Reread) (result : Result (Unit {0}) LoopFault) (new : Served) : Type 0 where
+pub record ServesAt (Lists : Result SourceTexts SourceFile → Type 0) (is_asked : Bool) (accepts : Option ℕ) (is_due : Bool) (now : ℕ) (age : FileAge) (old : Served) (answer : Option Reread) (result : Result (Unit {0}) LoopFault) (new : Served) : Type 0 where
   pub between : Served
   pub left : Served
-  pub rereads : RereadsWhenDue Lists accepts is_due now age old answer between
+  pub rereads : RereadsWhenDue Lists is_asked accepts is_due now age old answer between
   pub withdraws : WithdrawsWhere (is_stale now between) between left
   pub takes : TakesTurn now left.turns result new.turns
   pub same : new ≡ record left { turns = new.turns }

@@ -1,5 +1,5 @@
 -- What settings make of a served list, and turns of it.
-use Rattle.std.specs.Prelude.{◌≡◌, ◌≤◌, ℕ, ⊤, Bool, true, false, List, [], ◌∷◌, Option, None, Some, Result, Ok, length, if◌then◌else◌}
+use Rattle.std.specs.Prelude.{◌≡◌, ◌≤◌, ℕ, ⊤, Bool, true, false, List, [], ◌∷◌, Option, None, Some, Result, Ok, is_some, length}
 use Rattle.clocks.specs.Moments.{NeverGoBack, told_behind}
 use Rattle.cache_turns.specs.Turns.{TakesTurn, idle}
 use Rattle.net_prefix.specs.declared.payload.Vrp.{Vrp}
@@ -14,13 +14,13 @@ use Rattle.cache_settings.specs.declared.settings.Stale.{Stale}
 use Rattle.cache_settings.specs.declared.settings.Stale.TheVariants.{Serve, Withdraw}
 use Rattle.cache_program.specs.CacheOfSettings.{IsCacheOf}
 use Rattle.cache_program.specs.FirstList.{IsFirst}
-use Rattle.log_lines.specs.Passing.{have_passed}
+use Rattle.cache_program.specs.Intervals.{is_due_at, since_after}
 use Rattle.cache_program.specs.Rereads.{RereadsWhenDue, Served, age_told, WithdrawsWhere, is_stale}
 use Rattle.cache_watch.specs.declared.reread.Reread.{Reread}
 use Rattle.cache_watch.specs.declared.telling.FileAge.{FileAge}
 
--- a moment, how old the list's file is then, the reading that an operator asks for at it, and what reading the list has led to, where
--- it was read
+-- a moment, how old the list's file is then, the reading that an operator asks for at it, and what looking at the list has led to,
+-- where it was due or asked for
 pub record Moment : Type 0 where
   pub now : ℕ
   pub age : FileAge
@@ -44,17 +44,16 @@ count_accepted (Some readings.Accept) served = served.refused
 pub record ServesOnce (Lists : Result SourceTexts SourceFile → Type 0) (is_due : Bool) (at : Moment) (old new : Served) : Type 0 where
   pub between : Served
   pub left : Served
-  pub rereads : RereadsWhenDue Lists (count_accepted at.asked old) (is_read at.asked is_due) at.now at.age old at.led between
+  pub rereads : RereadsWhenDue Lists (is_some at.asked) (count_accepted at.asked old) (is_read at.asked is_due) at.now at.age old at.led between
   pub withdraws : WithdrawsWhere (is_stale at.now between) between left
   pub takes : TakesTurn at.now left.turns (Ok tt) new.turns
   pub same : new ≡ record left { turns = new.turns }
 
--- the same at each of these moments, one after another; the list was due last at one before them
-abbrev pub ServesAll : (Result SourceTexts SourceFile → Type 0) → Option ℕ → ℕ → List Moment → Served → Served → Type 0
-ServesAll Lists seconds last [] old new = new ≡ old
-ServesAll Lists seconds last (at ∷ moments) old new =
-    (mid : Served) × ServesOnce Lists (have_passed seconds last at.now) at old mid
-    × ServesAll Lists seconds (if have_passed seconds last at.now then at.now else last) moments mid new
+-- the same at each of these moments, one after another; the seconds to the next reading count from one before them, or from the first
+abbrev pub ServesAll : (Result SourceTexts SourceFile → Type 0) → Option ℕ → Option ℕ → List Moment → Served → Served → Type 0
+ServesAll Lists seconds since [] old new = new ≡ old
+ServesAll Lists seconds since (at ∷ moments) old new =
+    (mid : Served) × ServesOnce Lists (is_due_at seconds since at.now) at old mid × ServesAll Lists seconds (since_after since at.now at.led) moments mid new
 
 abbrev pub nows : List Moment → List ℕ
 nows [] = []
@@ -73,7 +72,7 @@ AreOfAge Ages (at ∷ moments) = Ages at.age × AreOfAge Ages moments
 -- turns were taken, no more than so many, each at the moment that the clock told for it, with operators attended to as is said
 pub record ServesSoMany (Lists : Result SourceTexts SourceFile → Type 0) (Ages : FileAge → Type 0) (Attends : ℕ → List Moment → Type 0) (reread : Option ℕ) (count : ℕ) (before behind : List ℕ) (old new : Served) : Type 0 where
   pub moments : List Moment
-  pub serves : ServesAll Lists reread 0 moments old new
+  pub serves : ServesAll Lists reread (Some 0) moments old new
   pub aged : AreOfAge Ages moments
   pub attends : Attends count moments
   pub told : behind ≡ told_behind (nows moments) before
@@ -99,7 +98,7 @@ pub record IsBegun (Lists : Result SourceTexts SourceFile → Type 0) (Ages : Fi
   pub age : FileAge
   pub told : Seconds second
   pub of_settings : IsCacheOf settings second cache
-  pub first : IsFirst Lists settings.guards cache.shared.kept served.serial set served.written
+  pub first : IsFirst Lists settings.guards cache.shared.kept served.serial set served.written served.stamps
   pub payloads : served.payloads ≡ length set
   pub guards : served.guards ≡ settings.guards
   pub accepted : served.accepted ≡ false

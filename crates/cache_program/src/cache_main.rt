@@ -1,5 +1,5 @@
 //! What the main of `ovcache` does.
-ghost use Rattle.std.specs.Prelude.{◌≡◌, ◌≤◌, [], ◌∷◌, ℕ, List, Ok, Some, IfErr, IfOk, MatchResult, OnErr, OnOk, Option, None, false, if◌then◌else◌};
+ghost use Rattle.std.specs.Prelude.{◌≡◌, ◌≤◌, [], ◌∷◌, ℕ, List, Ok, Some, IfErr, IfOk, MatchResult, OnErr, OnOk, Option, None, false};
 ghost use Rattle.clocks.specs.Moments.{IsNotBefore, moments_of};
 ghost use Rattle.std.specs.Fn.{FnOnceReturnsAt, FnReturnsAt};
 ghost use Rattle.std.specs.Result.{IsErrAnd};
@@ -12,7 +12,7 @@ ghost use Rattle.cache_program.specs.FirstList.{Passes};
 ghost use Rattle.cache_desk.specs.Desks.{AtDesk, TellsIf};
 ghost use Rattle.cache_program.specs.AttendedTurns.{AttendsOperators, AttendsSocket, AttendsTurns, HearsAt, IsDeskOf};
 ghost use Rattle.cache_program.specs.Opened.{Ages, AnySecond, AreSettingsAt, Gives, GivesAt, IsOpenedAt, Listens, SystemAges, SystemGives};
-ghost use Rattle.log_lines.specs.Passing.{have_passed};
+ghost use Rattle.cache_program.specs.Intervals.{is_due_at, since_after};
 ghost use Rattle.cache_program.specs.Rereads.{Served};
 ghost use Rattle.cache_program.specs.ServedTurns.{IsBegun, IsServed, ServesOnce, ServesSoMany, oldest_of};
 ghost use Rattle.cache_settings.specs.declared.settings.CacheSettings.{CacheSettings};
@@ -23,8 +23,9 @@ ghost use Rattle.program_endings.specs.Words.{IsCall};
 ghost use Rattle.wires.specs.Wires.{WireState, nothing_told};
 
 use crate::fault::CacheFault;
-use crate::files::{open_at, path_of, slurm_path};
+use crate::files::{open_at, open_stamped_at, path_of, slurm_path};
 use crate::help::{HELP, VERSION};
+use crate::interval::Interval;
 use crate::loading::{first_set, load_cache, opened_files, session_id};
 use crate::served_list::{ServedList, age_told};
 use crate::settings_file::read_settings;
@@ -139,7 +140,7 @@ where
         words,
         output,
         clock,
-        |path: &str| open_at(rt, path),
+        |path: &str| open_stamped_at(rt, path),
         |path: &str| file_age(rt, path),
         |listen: SocketAddr| NetWire::listening(rt, listen),
         |address: SocketAddr| MetricsSocket::open(rt, address),
@@ -267,7 +268,7 @@ where
     // The settings of the file that opening the path of the words gave were served for just the turns of the words.
     ensures serves { IfOk result (λ served. (path : List ℕ) × (turns : ℕ) × (settings : CacheSettings)
         × IsCall words.now path turns × AreSettingsAt (FnReturnsAt F.Fn opens path) L.remaining settings
-        × IsServed (Gives (FnReturnsAt F.Fn opens) L.remaining settings) (Ages (FnReturnsAt A.Fn ages) settings) (Listens (G.post listens settings.listen) W.state) (λ second. S.told seconds.new ≡ Some second)
+        × IsServed (Gives (FnReturnsAt F.Fn opens) L.remaining L.stamp settings) (Ages (FnReturnsAt A.Fn ages) settings) (Listens (G.post listens settings.listen) W.state) (λ second. S.told seconds.new ≡ Some second)
         (AttendsOperators Q.wish Q.line Q.turns Q.hears (λ path there. FnOnceReturnsAt K.FnOnce controls path (Ok there))) settings turns (C.readings clock.old) (C.readings clock.new) served) }
 {
     let (path, turns) = call_of(words)?;
@@ -351,7 +352,7 @@ where
     requires controls { K.IsAlwaysCallable controls }
     ensures fault { IfErr result (λ fault. ¬ (IsOfWords fault)) }
     ensures quiet { settings.now.log ≡ false → output.new ≡ output.old }
-    ensures serves { IfOk result (IsServed (Gives (FnReturnsAt F.Fn opens) L.remaining settings.now) (Ages (FnReturnsAt A.Fn ages) settings.now) (Listens (G.post listens settings.now.listen) W.state) (λ second. S.told seconds.new ≡ Some second)
+    ensures serves { IfOk result (IsServed (Gives (FnReturnsAt F.Fn opens) L.remaining L.stamp settings.now) (Ages (FnReturnsAt A.Fn ages) settings.now) (Listens (G.post listens settings.now.listen) W.state) (λ second. S.told seconds.new ≡ Some second)
         (AttendsOperators Q.wish Q.line Q.turns Q.hears (λ path there. FnOnceReturnsAt K.FnOnce controls path (Ok there))) settings.now turns (C.readings clock.old) (C.readings clock.new)) }
 {
     let second = second_of(seconds)?;
@@ -442,7 +443,7 @@ where
     requires ages { A.IsAlwaysCallable ages.now }
     requires listens { G.IsAlwaysCallable listens }
     ensures fault { IfErr result (λ fault. ¬ (IsOfWords fault)) }
-    ensures begins { IfOk result (IsBegun (Gives (FnReturnsAt F.Fn opens.now) L.remaining settings.now) (Ages (FnReturnsAt A.Fn ages.now) settings.now) (Listens (G.post listens settings.now.listen) W.state) (λ told. told ≡ second) settings.now) }
+    ensures begins { IfOk result (IsBegun (Gives (FnReturnsAt F.Fn opens.now) L.remaining L.stamp settings.now) (Ages (FnReturnsAt A.Fn ages.now) settings.now) (Listens (G.post listens settings.now.listen) W.state) (λ told. told ≡ second) settings.now) }
     ensures quiet { settings.now.log ≡ false → output.new ≡ output.old }
 {
     let file = list_age(settings, ages);
@@ -451,7 +452,8 @@ where
     let turns = over_wire(rt.alloc(), settings, cache, listens)?;
     tell_listening(rt, settings.log, turns.wire(), output);
     let served = ServedList::new(turns, settings.guards, serial, read.set, read.written);
-    Ok(served.aged(age, oldest_of(settings)))
+    let aged = served.aged(age, oldest_of(settings));
+    Ok(aged.known_by(read.stamps))
 }
 
 // How old a list may be to be served: as old as it is, unless the settings have one that is too old withdrawn.
@@ -550,10 +552,10 @@ where
     requires ages { A.IsAlwaysCallable ages.now }
     ensures fault { IfErr result (λ fault. ¬ (IsOfWords fault)) }
     ensures quiet { settings.now.log ≡ false → output.new ≡ output.old }
-    ensures turns { OnOk result (ServesSoMany (Gives (FnReturnsAt F.Fn opens.now) L.remaining settings.now) (Ages (FnReturnsAt A.Fn ages.now) settings.now) (AttendsTurns Q.wish Q.line Q.turns Q.hears desk.old desk.new) settings.now.reread turns
+    ensures turns { OnOk result (ServesSoMany (Gives (FnReturnsAt F.Fn opens.now) L.remaining L.stamp settings.now) (Ages (FnReturnsAt A.Fn ages.now) settings.now) (AttendsTurns Q.wish Q.line Q.turns Q.hears desk.old desk.new) settings.now.reread turns
         (C.readings clock.old) (C.readings clock.new) served.old served.new) }
 {
-    let mut reread = Every::new(settings.reread);
+    let mut reread = Interval::new(settings.reread);
     let mut status = Every::new(settings.status);
     let mut limit = LineLimit::new(ROUTER_LINES);
     for _ in 0..turns {
@@ -672,7 +674,7 @@ fn serve_once<
     now: u64,
     asked: Option<Reading>,
     second: u64,
-    reread: &mut Every,
+    reread: &mut Interval,
     watch: &mut Watch<P>,
     desk: &mut Desk<Q>,
     output: &mut O,
@@ -687,9 +689,9 @@ where
     requires ages { A.IsAlwaysCallable ages.now }
     ensures fault { IfErr result (λ fault. ¬ (IsOfWords fault)) }
     ensures quiet { settings.now.log ≡ false → output.new ≡ output.old }
-    ensures due { reread.new ≡ record reread.old { last = if have_passed reread.old.seconds reread.old.last now then now else reread.old.last } }
     ensures serves { OnOk result ((age : FileAge) × (led : Option Reread) × Ages (FnReturnsAt A.Fn ages.now) settings.now age × AtDesk (TellsIf Q.hears led) desk.old desk.new
-        × ServesOnce (GivesAt (FnReturnsAt F.Fn opens.now) L.remaining settings.now second) (have_passed reread.old.seconds reread.old.last now) (record { now = now; age = age; asked = asked; led = led }) served.old served.new) }
+        × ServesOnce (GivesAt (FnReturnsAt F.Fn opens.now) L.remaining L.stamp settings.now second) (is_due_at reread.old.seconds reread.old.since now) (record { now = now; age = age; asked = asked; led = led }) served.old served.new
+        × (reread.new ≡ record reread.old { since = since_after reread.old.since now led })) }
 {
     tell_asked(rt, settings, asked, output);
     let age = list_age(settings, ages);
@@ -734,7 +736,7 @@ fn tell_led<R: Clock, O: Write>(
 {
     let path = match led {
         Reread::Refused(why) => path_of(settings, why.file()),
-        Reread::Same | Reread::Published(_) => settings.csv.as_str(),
+        Reread::Same | Reread::Unchanged | Reread::Published(_) => settings.csv.as_str(),
     };
     tell_list(rt, settings.log, led, payloads, path, output);
 }

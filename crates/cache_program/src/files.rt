@@ -5,12 +5,13 @@ ghost use Rattle.payload_sources.specs.PayloadSources.{texts_of};
 ghost use Rattle.cache_program.specs.Opened.{Gives, GivesAt, expiring_at};
 
 use cache_settings::CacheSettings;
-pub(crate) use file_paths::open_at;
+use file_paths::Steady;
+pub(crate) use file_paths::{open_at, open_stamped_at};
 use payload_sources::{SourceFile, Sources, Unopened, open_sources};
 use std::io::{self, Read};
 
 /// Opens the list of the settings, and their SLURM file where there is one, to be read at this second since 1970.
-pub(crate) fn open_files<L: Read + Drop, F>(
+pub(crate) fn open_files<L: Read + Steady + Drop, F>(
     settings: &CacheSettings,
     second: u64,
     opens: &F,
@@ -19,8 +20,8 @@ where
     F: Fn(&str) -> io::Result<L>,
     requires { F.IsAlwaysCallable opens.now }
     ensures second { IfOk result (λ files. files.second ≡ expiring_at settings.now second) }
-    ensures then { MatchResult result (λ files. GivesAt (FnReturnsAt F.Fn opens.now) L.remaining settings.now second (Ok (texts_of L.remaining files.list files.slurm files.second))) (λ unopened. GivesAt (FnReturnsAt F.Fn opens.now) L.remaining settings.now second (Err unopened.file)) }
-    ensures gives { MatchResult result (λ files. Gives (FnReturnsAt F.Fn opens.now) L.remaining settings.now (Ok (texts_of L.remaining files.list files.slurm files.second))) (λ unopened. Gives (FnReturnsAt F.Fn opens.now) L.remaining settings.now (Err unopened.file)) }
+    ensures then { MatchResult result (λ files. GivesAt (FnReturnsAt F.Fn opens.now) L.remaining L.stamp settings.now second (Ok (texts_of L.remaining L.stamp files.list files.slurm files.second))) (λ unopened. GivesAt (FnReturnsAt F.Fn opens.now) L.remaining L.stamp settings.now second (Err unopened.file)) }
+    ensures gives { MatchResult result (λ files. Gives (FnReturnsAt F.Fn opens.now) L.remaining L.stamp settings.now (Ok (texts_of L.remaining L.stamp files.list files.slurm files.second))) (λ unopened. Gives (FnReturnsAt F.Fn opens.now) L.remaining L.stamp settings.now (Err unopened.file)) }
 {
     let second = expiring_at(settings, second);
     open_sources(settings.csv.as_str(), slurm_path(settings), second, opens)

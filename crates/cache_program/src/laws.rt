@@ -14,7 +14,7 @@ use control_lines::Operators;
 /// What is done to a served list at moments are turns of its loop, and sets that are loaded between them, so that what
 /// follows of these for each connection (crate cache_turns) holds of it.
 pub fn served_turns_are_steps()
-    ensures { (seconds : Option ℕ) (last : ℕ) (moments : List Moment) (old new : Served) → ServesAll AnyList seconds last moments old new → (steps : List Step) × TakesSteps steps old.turns new.turns }
+    ensures { (seconds since : Option ℕ) (moments : List Moment) (old new : Served) → ServesAll AnyList seconds since moments old new → (steps : List Step) × TakesSteps steps old.turns new.turns }
 {}
 
 /// At a closed desk just so many turns are taken as are wanted, and nobody asks for a reading.

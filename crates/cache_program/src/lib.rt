@@ -2,7 +2,8 @@
 //!
 //! `main_cache` reads the words exactly, and tells what the operator has to mend from what the system didn't give
 //! (`specs/Exits.antt`). `ServedList` takes the list again while routers are served: one that can't be had, or that a guard
-//! of the settings refuses, changes nothing, and one that is served already publishes nothing (`specs/Rereads.antt`).
+//! of the settings refuses, changes nothing, one that is served already publishes nothing, and one whose files are unchanged isn't
+//! read (`specs/Rereads.antt`). The interval counts from the end of a reading (`specs/Intervals.antt`).
 //! `serve_cache` makes the cache of settings (`specs/CacheOfSettings.antt`), has it publish the list
 //! that is opened at their path (`specs/FirstList.antt`, `specs/Opened.antt`), and serves it by the wire that listens at
 //! their address for so many turns, each at the moment of the clock (`specs/ServedTurns.antt`), with the operators at their
@@ -16,6 +17,7 @@ mod exits;
 mod fault;
 mod files;
 mod help;
+mod interval;
 mod laws;
 mod loading;
 mod served_list;
@@ -25,6 +27,7 @@ pub use cache_main::{main_cache, serve_cache};
 pub use cache_watch::{ListFault, LogLine, Reread, Watched};
 pub use exits::{of_first_list, of_refusal};
 pub use fault::CacheFault;
+pub use interval::Interval;
 pub use laws::{
     all_turns_are_taken_where_nobody_may_ask, no_fewer_are_served_than_are_wanted,
     no_more_are_served_than_may_be, served_turns_are_steps, turns_end_early_by_the_word_stop,

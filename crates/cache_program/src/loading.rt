@@ -37,7 +37,7 @@ where
     requires { F.IsAlwaysCallable opens.now }
     ensures fault { IfErr result (λ fault. ¬ (IsOfWords fault)) }
     ensures cache { IfOk result (λ loaded. IsCacheOf settings.now second loaded.0) }
-    ensures first { IfOk result (λ loaded. IsFirst (Gives (FnReturnsAt F.Fn opens.now) L.remaining settings.now) settings.now.guards loaded.0.shared.kept loaded.1 loaded.2.set.keys loaded.2.written) }
+    ensures first { IfOk result (λ loaded. IsFirst (Gives (FnReturnsAt F.Fn opens.now) L.remaining L.stamp settings.now) settings.now.guards loaded.0.shared.kept loaded.1 loaded.2.set.keys loaded.2.written loaded.2.stamps) }
     ensures quiet { settings.now.log ≡ false → output.new ≡ output.old }
 {
     let mut cache = made_cache(rt.alloc(), settings, second)?;
@@ -88,7 +88,7 @@ where
     requires none { cache.old.shared.kept ≡ [] }
     ensures fault { IfErr result (λ fault. ¬ (IsOfWords fault)) }
     ensures terms { IfOk result (λ loaded. cache.new.shared ≡ record cache.old.shared { kept = cache.new.shared.kept; withdrawn = false }) }
-    ensures first { IfOk result (λ loaded. IsFirst (Gives (FnReturnsAt F.Fn opens.now) L.remaining settings.now) settings.now.guards cache.new.shared.kept loaded.0 loaded.1.set.keys loaded.1.written) }
+    ensures first { IfOk result (λ loaded. IsFirst (Gives (FnReturnsAt F.Fn opens.now) L.remaining L.stamp settings.now) settings.now.guards cache.new.shared.kept loaded.0 loaded.1.set.keys loaded.1.written loaded.1.stamps) }
     ensures quiet { settings.now.log ≡ false → output.new ≡ output.old }
 {
     let files = opened_files(rt.alloc(), settings, second, opens)?;
@@ -105,7 +105,7 @@ where
 }
 
 /// The files that are opened at the paths of the settings, to be read at this second since 1970.
-pub(crate) fn opened_files<L: Read + Drop, F>(
+pub(crate) fn opened_files<L: Read + Steady + Drop, F>(
     alloc: Global,
     settings: &CacheSettings,
     second: u64,
@@ -115,7 +115,7 @@ where
     F: Fn(&str) -> io::Result<L>,
     requires { F.IsAlwaysCallable opens.now }
     ensures fault { IfErr result (λ fault. ¬ (IsOfWords fault)) }
-    ensures given { IfOk result (λ files. Gives (FnReturnsAt F.Fn opens.now) L.remaining settings.now (Ok (texts_of L.remaining files.list files.slurm files.second))) }
+    ensures given { IfOk result (λ files. Gives (FnReturnsAt F.Fn opens.now) L.remaining L.stamp settings.now (Ok (texts_of L.remaining L.stamp files.list files.slurm files.second))) }
 {
     match open_files(settings, second, opens) {
         Ok(files) => Ok(files),
@@ -134,8 +134,9 @@ fn read_told<R: Clock + AllocGlobal, L: Read + Steady + Drop, O: Write>(
     output: &mut O,
 ) -> Result<SourceSet, CacheFault>
     ensures fault { IfErr result (λ fault. ¬ (IsOfWords fault)) }
-    ensures set { IfOk result (λ read. Passes settings.now.guards (texts_of L.remaining files.list files.slurm files.second) read.set.keys) }
-    ensures written { IfOk result (λ read. SaysWritten (texts_of L.remaining files.list files.slurm files.second) read.written) }
+    ensures set { IfOk result (λ read. Passes settings.now.guards (texts_of L.remaining L.stamp files.list files.slurm files.second) read.set.keys) }
+    ensures written { IfOk result (λ read. SaysWritten (texts_of L.remaining L.stamp files.list files.slurm files.second) read.written) }
+    ensures stamps { IfOk result (λ read. read.stamps ≡ (texts_of L.remaining L.stamp files.list files.slurm files.second).stamps) }
     ensures quiet { settings.now.log ≡ false → output.new ≡ output.old }
 {
     match first_set(rt.alloc(), &settings.guards, files) {
@@ -154,7 +155,7 @@ pub(crate) fn first_set<L: Read + Steady + Drop>(
     guards: &Guards,
     files: Sources<L>,
 ) -> Result<SourceSet, ListFault>
-    ensures { MatchResult result (λ read. Passes guards.now (texts_of L.remaining files.list files.slurm files.second) read.set.keys × SaysWritten (texts_of L.remaining files.list files.slurm files.second) read.written) (λ why. IsNoFirst guards.now (texts_of L.remaining files.list files.slurm files.second) why) }
+    ensures { MatchResult result (λ read. Passes guards.now (texts_of L.remaining L.stamp files.list files.slurm files.second) read.set.keys × SaysWritten (texts_of L.remaining L.stamp files.list files.slurm files.second) read.written × (read.stamps ≡ (texts_of L.remaining L.stamp files.list files.slurm files.second).stamps)) (λ why. IsNoFirst guards.now (texts_of L.remaining L.stamp files.list files.slurm files.second) why) }
 {
     let read = match read_sources(alloc, files) {
         Ok(read) => read,

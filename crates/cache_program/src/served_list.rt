@@ -1,16 +1,17 @@
 //! A payload list that is served while its file changes.
-ghost use Rattle.std.specs.Prelude.{◌≡◌, ◌≢◌, ◌+◌, Ok, Err, None, Some, IfNone, IfSome, MatchResult, false, if◌then◌else◌, is_some, length, true};
+ghost use Rattle.std.specs.Prelude.{◌≡◌, ◌≢◌, ◌+◌, Ok, Err, None, Some, IfNone, IfSome, MatchResult, false, is_some, length, true};
 ghost use Rattle.std.specs.Fn.{FnReturnsAt};
 ghost use Rattle.cache_turns.specs.Turns.{TakesTurn, WithdrawsSet};
 ghost use Rattle.list_guards.specs.Guarding.{guard_fault};
 ghost use Rattle.payload_sources.specs.PayloadSources.{texts_of};
 ghost use Rattle.cache_program.specs.Figures.{figures_of};
 ghost use Rattle.cache_program.specs.Opened.{GivesAt};
-ghost use Rattle.log_lines.specs.Passing.{have_passed};
-ghost use Rattle.cache_program.specs.Rereads.{IsKeptOut, IsLetIn, IsNewest, Notes, Publishes, Rereads, RereadsFile, RereadsWhenDue, ServesAt, WithdrawsWhere, age_told, is_older, is_stale, newest_set, served_set};
+ghost use Rattle.cache_program.specs.Intervals.{is_due_at, since_after};
+ghost use Rattle.cache_program.specs.Rereads.{IsKept, IsKeptOut, IsLetIn, IsNewest, KeepsCount, LooksAt, Notes, Publishes, Rereads, RereadsFile, RereadsWhenDue, ServesAt, WithdrawsWhere, age_told, are_known, is_older, is_stale, newest_set, served_set, stands};
 ghost use Rattle.cache_program.specs.ServedTurns.{count_accepted, is_read};
 
 use crate::files::open_files;
+use crate::interval::Interval;
 use cache_desk::Reading;
 use cache_figures::CacheFigures;
 use cache_settings::CacheSettings;
@@ -18,9 +19,8 @@ use cache_turns::CacheLoop;
 use cache_watch::{FileAge, ListFault, Reread};
 use file_paths::Steady;
 use list_guards::{GuardFault, Guards};
-use log_lines::Every;
 use net_prefix::Vrp;
-use payload_sources::{Sources, Unopened, read_sources};
+use payload_sources::{SourceFile, SourceStamps, Sources, Unopened, read_sources};
 use std::alloc::Global;
 use std::collections::BTreeSet;
 use std::io::{self, Read};
@@ -53,6 +53,8 @@ pub struct ServedList<W: Wire> {
     most: Option<u32>,
     // When it says that it was written.
     written: Written,
+    // The stamps of the files that it was read from, by which they are known again, if each is.
+    stamps: Option<SourceStamps>,
 }
 
 impl<W: Wire> Model for ServedList<W> {
@@ -60,7 +62,7 @@ impl<W: Wire> Model for ServedList<W> {
 
     ghost Value = { Served };
 
-    ghost view = { λ s. record { turns = s.turns; guards = s.guards; serial = s.serial; payloads = s.payloads; read = s.read; accepted = s.accepted; refused = s.refused; age = s.age; most = s.most; written = s.written } };
+    ghost view = { λ s. record { turns = s.turns; guards = s.guards; serial = s.serial; payloads = s.payloads; read = s.read; accepted = s.accepted; refused = s.refused; age = s.age; most = s.most; written = s.written; stamps = s.stamps } };
 
     ghost invariant = { λ s. IsServing s.guards s.turns.cache.shared.kept s.serial s.payloads s.looked_at.keys };
 }
@@ -77,7 +79,7 @@ impl<W: Wire + Drop> ServedList<W> {
     ) -> Self
         requires newest { IsNewest turns.cache.shared.kept serial (length set.keys) }
         requires set { set.keys ≡ newest_set turns.cache.shared.kept }
-        ensures { result ≡ record { turns = turns; guards = guards; serial = serial; payloads = length set.keys; read = 0; accepted = false; refused = None; age = 0; most = None; written = written } }
+        ensures { result ≡ record { turns = turns; guards = guards; serial = serial; payloads = length set.keys; read = 0; accepted = false; refused = None; age = 0; most = None; written = written; stamps = None } }
     {
         let payloads = set.len();
         ServedList {
@@ -92,6 +94,7 @@ impl<W: Wire + Drop> ServedList<W> {
             age: 0,
             most: None,
             written,
+            stamps: None,
         }
     }
 
@@ -105,6 +108,15 @@ impl<W: Wire + Drop> ServedList<W> {
         served
     }
 
+    /// The same, whose files are known again by these stamps.
+    pub fn known_by(self, stamps: Option<SourceStamps>) -> Self
+        ensures { result ≡ record self { stamps = stamps } }
+    {
+        let mut served = self;
+        served.stamps = stamps;
+        served
+    }
+
     /// A turn, which publishes nothing.
     pub fn turn(&mut self, now: u64) -> Result<(), LoopFault>
         ensures takes { TakesTurn now self.old.turns result self.new.turns }
@@ -114,26 +126,31 @@ impl<W: Wire + Drop> ServedList<W> {
     }
 
     /// What is done at a moment: where the list is due, or an operator asks for it, the files of the settings are opened and it
-    /// is read again, at this second since 1970, as old as it is then; what is too old is withdrawn; then a turn is taken.
-    /// Answers what reading the list again has led to, where it was read, and what the turn has.
+    /// is read again, at this second since 1970, as old as it is then, unless they are unchanged and no operator asks; what is too
+    /// old is withdrawn; then a turn is taken. Answers what the reading has led to, where the list was due or asked for, and what
+    /// the turn has.
     pub fn serve<L: Read + Steady + Drop, F: Fn(&str) -> io::Result<L>>(
         &mut self,
         alloc: Global,
         now: u64,
         age: FileAge,
         asked: Option<Reading>,
-        due: &mut Every,
+        due: &mut Interval,
         settings: &CacheSettings,
         second: u64,
         opens: &F,
     ) -> (Option<Reread>, Result<(), LoopFault>)
         requires { F.IsAlwaysCallable opens.now }
-        ensures serves { ServesAt (GivesAt (FnReturnsAt F.Fn opens.now) L.remaining settings.now second) (count_accepted asked self.old) (is_read asked (have_passed due.old.seconds due.old.last now)) now age self.old result.0 result.1 self.new }
-        ensures due { due.new ≡ record due.old { last = if have_passed due.old.seconds due.old.last now then now else due.old.last } }
+        ensures serves { ServesAt (GivesAt (FnReturnsAt F.Fn opens.now) L.remaining L.stamp settings.now second) (is_some asked) (count_accepted asked self.old) (is_read asked (is_due_at due.old.seconds due.old.since now)) now age self.old result.0 result.1 self.new }
+        ensures due { due.new ≡ record due.old { since = since_after due.old.since now result.0 } }
     {
         let is_read = is_read(asked, due.is_due(now));
         let accepts = self.count_accepted(asked);
-        let reread = self.reread_if(is_read, alloc, now, age, accepts, settings, second, opens);
+        let is_asked = asked.is_some();
+        let reread = self.reread_if(
+            is_read, alloc, now, age, is_asked, accepts, settings, second, opens,
+        );
+        due.note(reread);
         self.withdraw_stale(now);
         (reread, self.turn(now))
     }
@@ -144,20 +161,87 @@ impl<W: Wire + Drop> ServedList<W> {
         alloc: Global,
         now: u64,
         age: FileAge,
+        is_asked: bool,
         accepts: Option<usize>,
         settings: &CacheSettings,
         second: u64,
         opens: &F,
     ) -> Option<Reread>
         requires { F.IsAlwaysCallable opens.now }
-        ensures { RereadsWhenDue (GivesAt (FnReturnsAt F.Fn opens.now) L.remaining settings.now second) accepts is_read now age self.old result self.new }
+        ensures { RereadsWhenDue (GivesAt (FnReturnsAt F.Fn opens.now) L.remaining L.stamp settings.now second) is_asked accepts is_read now age self.old result self.new }
     {
         if is_read {
             let files = open_files(settings, second, opens);
-            Some(self.reread(alloc, now, age, accepts, files))
+            Some(self.look(alloc, now, age, is_asked, accepts, files))
         } else {
             None
         }
+    }
+
+    // Reads files that were opened, unless they are unchanged and no operator asks.
+    fn look<L: Read + Steady + Drop>(
+        &mut self,
+        alloc: Global,
+        now: u64,
+        age: FileAge,
+        is_asked: bool,
+        accepts: Option<usize>,
+        sources: Result<Sources<L>, Unopened>,
+    ) -> Reread
+        ensures { MatchResult sources (λ files. LooksAt is_asked accepts now age (Ok (texts_of L.remaining L.stamp files.list files.slurm files.second)) self.old result self.new) (λ unopened. LooksAt is_asked accepts now age (Err unopened.file) self.old result self.new) }
+    {
+        match sources {
+            Ok(files) => self.look_at(alloc, now, age, is_asked, accepts, files),
+            Err(unopened) => self.lack(unopened.file),
+        }
+    }
+
+    fn look_at<L: Read + Steady + Drop>(
+        &mut self,
+        alloc: Global,
+        now: u64,
+        age: FileAge,
+        is_asked: bool,
+        accepts: Option<usize>,
+        files: Sources<L>,
+    ) -> Reread
+        ensures { LooksAt is_asked accepts now age (Ok (texts_of L.remaining L.stamp files.list files.slurm files.second)) self.old result self.new }
+    {
+        let stands = self.stands(age, &files) && !is_asked;
+        if stands {
+            return self.keep(now, age);
+        }
+        self.reread_files(alloc, now, age, accepts, files)
+    }
+
+    // Whether what was read last stands, where these files were opened.
+    fn stands<L: Read + Steady>(&self, age: FileAge, files: &Sources<L>) -> bool
+        ensures { result ≡ stands age (Ok (texts_of L.remaining L.stamp files.now.list files.now.slurm files.now.second)) self.now }
+    {
+        files.second.is_none()
+            && are_known(files.stamps(), self.stamps)
+            && !self.accepted
+            && !self.is_withdrawn()
+            && !is_older(self.most, age_told(self.written, age))
+    }
+
+    // What was read last stands at this moment.
+    fn keep(&mut self, now: u64, age: FileAge) -> Reread
+        ensures unchanged { result ≡ Reread.Unchanged }
+        ensures stands { IsKept now age self.old self.new }
+    {
+        self.age = age_told(self.written, age);
+        self.read = now;
+        self.refused = None;
+        Reread::Unchanged
+    }
+
+    // A file couldn't be opened.
+    fn lack(&mut self, file: SourceFile) -> Reread
+        ensures { (result ≡ Reread.Refused (ListFault.NoFile file)) × KeepsCount (ListFault.NoFile file) self.old self.new }
+    {
+        self.refused = None;
+        Reread::Refused(ListFault::NoFile(file))
     }
 
     /// Rests until a turn may find something to do, or so long.
@@ -179,14 +263,11 @@ impl<W: Wire + Drop> ServedList<W> {
         accepts: Option<usize>,
         sources: Result<Sources<L>, Unopened>,
     ) -> Reread
-        ensures { MatchResult sources (λ files. Rereads accepts now age (Ok (texts_of L.remaining files.list files.slurm files.second)) self.old result self.new) (λ unopened. Rereads accepts now age (Err unopened.file) self.old result self.new) }
+        ensures { MatchResult sources (λ files. Rereads accepts now age (Ok (texts_of L.remaining L.stamp files.list files.slurm files.second)) self.old result self.new) (λ unopened. Rereads accepts now age (Err unopened.file) self.old result self.new) }
     {
         match sources {
             Ok(files) => self.reread_files(alloc, now, age, accepts, files),
-            Err(unopened) => {
-                self.refused = None;
-                Reread::Refused(ListFault::NoFile(unopened.file))
-            }
+            Err(unopened) => self.lack(unopened.file),
         }
     }
 
@@ -198,12 +279,12 @@ impl<W: Wire + Drop> ServedList<W> {
         accepts: Option<usize>,
         files: Sources<L>,
     ) -> Reread
-        ensures { RereadsFile accepts now age (texts_of L.remaining files.list files.slurm files.second) self.old result self.new }
+        ensures { RereadsFile accepts now age (texts_of L.remaining L.stamp files.list files.slurm files.second) self.old result self.new }
     {
         match read_sources(alloc, files) {
             Ok(read) => {
                 let age = age_told(read.written, age);
-                self.publish(now, age, accepts, read.set, read.written)
+                self.publish(now, age, accepts, read.set, read.written, read.stamps)
             }
             Err(refused) => {
                 self.refused = None;
@@ -220,12 +301,13 @@ impl<W: Wire + Drop> ServedList<W> {
         accepts: Option<usize>,
         set: BTreeSet<Vrp>,
         written: Written,
+        stamps: Option<SourceStamps>,
     ) -> Reread
         ensures publishes { Publishes accepts now age set.keys self.old result self.new }
-        ensures notes { Notes written result self.new }
+        ensures notes { Notes written stamps result self.new }
     {
         match self.admit(age, accepts, &set) {
-            Ok(()) => self.hand_in(now, age, accepts, set, written),
+            Ok(()) => self.hand_in(now, age, accepts, set, written, stamps),
             Err(why) => {
                 self.refused = why.payloads();
                 Reread::Refused(why)
@@ -286,10 +368,11 @@ impl<W: Wire + Drop> ServedList<W> {
         accepts: Option<usize>,
         set: BTreeSet<Vrp>,
         written: Written,
+        stamps: Option<SourceStamps>,
     ) -> Reread
         requires { IsLetIn accepts age set.keys self.old }
         ensures publishes { Publishes accepts now age set.keys self.old result self.new }
-        ensures notes { Notes written result self.new }
+        ensures notes { Notes written stamps result self.new }
     {
         let Ok(report) = self.turns.load(&set) else {
             self.refused = None;
@@ -304,6 +387,7 @@ impl<W: Wire + Drop> ServedList<W> {
         self.refused = None;
         self.age = age;
         self.written = written;
+        self.stamps = stamps;
         if self.serial == before {
             return Reread::Same;
         }
@@ -463,6 +547,19 @@ fn is_read(asked: Option<Reading>, is_due: bool) -> bool
     match asked {
         Some(_) => true,
         None => is_due,
+    }
+}
+
+// Whether files are known again by these stamps.
+fn are_known(stamps: Option<SourceStamps>, known: Option<SourceStamps>) -> bool
+    ensures { result ≡ are_known stamps known }
+{
+    let Some(stamps) = stamps else {
+        return false;
+    };
+    match known {
+        Some(known) => stamps.are(known),
+        None => false,
     }
 }
 

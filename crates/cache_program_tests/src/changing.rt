@@ -1,9 +1,12 @@
 //! A file that changes while it is read.
 
+ghost use Rattle.std.specs.Prelude.{Option};
+ghost use Rattle.file_paths.specs.declared.steady.Stamp.{Stamp};
+
 use crate::rereads::{FIRST, is_published, serving_none};
 use cache_program::{ListFault, Reread, ServedList};
 use cache_watch::FileAge;
-use file_paths::Steady;
+use file_paths::{Stamp, Steady};
 use list_guards::Guards;
 use net_wires::NetWire;
 use payload_sources::{SourceFault, SourceFile, Sources};
@@ -19,11 +22,12 @@ const LIST: &[u8] =
 const NO_EXCEPTIONS: &[u8] =
     br#"{"slurmVersion": 1, "validationOutputFilters": {"prefixFilters": [], "bgpsecFilters": []}, "locallyAddedAssertions": {"prefixAssertions": [], "bgpsecAssertions": []}}"#;
 
-// A file without fault, which may be written to while it is read.
+/// A file without fault, which may be written to while it is read.
 #[derive(Drop)]
-struct File<'a> {
-    rest: &'a [u8],
-    changes: bool,
+pub(crate) struct File<'a> {
+    pub rest: &'a [u8],
+    pub changes: bool,
+    pub stamp: Option<Stamp>,
 }
 
 impl<'a> Read for File<'a> {
@@ -33,8 +37,14 @@ impl<'a> Read for File<'a> {
 }
 
 impl<'a> Steady for File<'a> {
+    ghost stamp = { λ file. file.stamp };
+
     fn has_changed(&self) -> bool {
         self.changes
+    }
+
+    fn stamp(&self) -> Option<Stamp> {
+        self.stamp
     }
 }
 
@@ -49,10 +59,12 @@ fn reread_changing<W: Wire + Drop>(
         list: File {
             rest: LIST,
             changes: list,
+            stamp: None,
         },
         slurm: Some(File {
             rest: NO_EXCEPTIONS,
             changes: slurm,
+            stamp: None,
         }),
         second: None,
     };

@@ -38,19 +38,20 @@ const HEARD: [u8; 76] = [
     1, 0, 0, 7, 0, 0, 0, 12, 0, 0, 0, 3,
 ];
 
-// The log before the listener's address, before the router's and behind it.
+// The log before the listener's address, before the router's and behind it. A turn takes a second, and the ten to the next reading
+// count from the first turn behind the last one.
 const LOG: [&str; 3] = [
     "2026-01-01T00:00:00Z list loaded: serial 1, payloads 1\n2026-01-01T00:00:00Z listens at ",
     "\n2026-01-01T00:00:01Z router ",
     " came
 2026-01-01T00:00:10Z list loaded: serial 2, payloads 1
-2026-01-01T00:00:30Z list refused: row 2: the prefix is no IPv4 prefix
-2026-01-01T00:00:40Z list refused: row 0: the first row is not the header of a payload list
-2026-01-01T00:00:50Z list loaded: serial 3, payloads 2
-2026-01-01T00:01:00Z list refused: it has 0 payloads, and 1 are wanted
-2026-01-01T00:01:00Z status: serial 3, payloads 2, routers 1 (0 current, 1 behind, 0 without), octets 8 in, 64 out, list written at a time that can't be told, read 10 seconds ago
+2026-01-01T00:00:32Z list refused: row 2: the prefix is no IPv4 prefix
+2026-01-01T00:00:43Z list refused: row 0: the first row is not the header of a payload list
+2026-01-01T00:00:54Z list loaded: serial 3, payloads 2
+2026-01-01T00:01:00Z status: serial 3, payloads 2, routers 1 (0 current, 1 behind, 0 without), octets 8 in, 64 out, list written at a time that can't be told, read 6 seconds ago
 2026-01-01T00:01:00Z list old: when it was written can't be told
-2026-01-01T00:01:10Z list refused: the file can't be opened
+2026-01-01T00:01:05Z list refused: it has 0 payloads, and 1 are wanted
+2026-01-01T00:01:16Z list refused: the file can't be opened
 ",
 ];
 
@@ -131,9 +132,9 @@ fn is_heard(alloc: Global, router: &mut TcpStream, octets: &[u8]) -> bool {
     hears(router, &mut heard, octets)
 }
 
-// Whether 75 turns, a second each, are told by this log.
+// Whether 76 turns, a second each, are told by this log.
 fn is_told(stage: &Stage<'_>, settings_path: &str, log: &str) -> bool {
-    let words = [settings_path, "75"];
+    let words = [settings_path, "76"];
     let ending = Ending {
         status: 0,
         output: log,

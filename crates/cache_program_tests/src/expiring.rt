@@ -20,11 +20,11 @@ const LISTS: [&str; 7] = [LIST; 7];
 const LOG: [&str; 2] = [
     "2026-01-01T00:00:00Z list loaded: serial 1, payloads 3\n2026-01-01T00:00:00Z listens at ",
     "
-2026-01-01T00:00:30Z list loaded: serial 2, payloads 2
-2026-01-01T00:00:40Z list loaded: serial 3, payloads 1
-2026-01-01T00:01:00Z status: serial 3, payloads 1, routers 0 (0 current, 0 behind, 0 without), octets 0 in, 0 out, list written at a time that can't be told, read 0 seconds ago
+2026-01-01T00:00:21Z list loaded: serial 2, payloads 2
+2026-01-01T00:00:43Z list loaded: serial 3, payloads 1
+2026-01-01T00:01:00Z status: serial 3, payloads 1, routers 0 (0 current, 0 behind, 0 without), octets 0 in, 0 out, list written at a time that can't be told, read 6 seconds ago
 2026-01-01T00:01:00Z list old: when it was written can't be told
-2026-01-01T00:01:10Z list refused: the file can't be opened
+2026-01-01T00:01:16Z list refused: the file can't be opened
 ",
 ];
 

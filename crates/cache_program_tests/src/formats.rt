@@ -78,22 +78,22 @@ const LISTS: [&str; 7] = [
     FIRST_IN_JSON,
     BROKEN,
     FAULTY,
-    "{}",
     SECOND_IN_JSON,
     TELLING_ITS_TIME,
+    "{}",
 ];
 
 // The log before the listener's address and behind it.
 const LOG: [&str; 2] = [
     "2026-01-01T00:00:00Z list loaded: serial 1, payloads 1\n2026-01-01T00:00:00Z listens at ",
     "
-2026-01-01T00:00:20Z list refused: octet 82: the text is no JSON
-2026-01-01T00:00:30Z list refused: roas[1]: the member prefix is missing or no IPv4 prefix
-2026-01-01T00:00:40Z list refused: the list has no member roas
-2026-01-01T00:00:50Z list loaded: serial 2, payloads 1
-2026-01-01T00:01:00Z status: serial 2, payloads 1, routers 0 (0 current, 0 behind, 0 without), octets 0 in, 0 out, list written 61 seconds ago, read 0 seconds ago
+2026-01-01T00:00:21Z list refused: octet 82: the text is no JSON
+2026-01-01T00:00:32Z list refused: roas[1]: the member prefix is missing or no IPv4 prefix
+2026-01-01T00:00:43Z list loaded: serial 2, payloads 1
+2026-01-01T00:01:00Z status: serial 2, payloads 1, routers 0 (0 current, 0 behind, 0 without), octets 0 in, 0 out, list written 61 seconds ago, read 6 seconds ago
 2026-01-01T00:01:00Z list old: written 61 seconds ago, and 60 may be
-2026-01-01T00:01:10Z list refused: the file can't be opened
+2026-01-01T00:01:05Z list refused: the list has no member roas
+2026-01-01T00:01:16Z list refused: the file can't be opened
 ",
 ];
 

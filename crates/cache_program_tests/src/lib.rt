@@ -1,6 +1,6 @@
 //! Tests alone: a list that is read again while routers are served, and guarded, lists in either format and under the
 //! exceptions of SLURM files, a day of `ovcache`, one on which its list is withdrawn, payloads that expire, its texts and
-//! statuses, figures, operators, and a file that changes.
+//! statuses, figures, operators, a file that changes, and one that doesn't.
 #![tactic(auto)]
 
 #[cfg(test)]
@@ -25,3 +25,5 @@ mod slurm;
 mod stale;
 #[cfg(test)]
 mod statuses;
+#[cfg(test)]
+mod unchanged;

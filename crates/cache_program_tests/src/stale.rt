@@ -26,13 +26,13 @@ const LOG: [&str; 3] = [
     "\n2026-01-01T00:00:01Z router ",
     " came
 2026-01-01T00:00:10Z list refused: row 0: the first row is not the header of a payload list
-2026-01-01T00:00:20Z list refused: row 0: the first row is not the header of a payload list
-2026-01-01T00:00:30Z list refused: row 0: the first row is not the header of a payload list
-2026-01-01T00:00:40Z list refused: row 0: the first row is not the header of a payload list
-2026-01-01T00:00:50Z list refused: row 0: the first row is not the header of a payload list
-2026-01-01T00:01:00Z list refused: row 0: the first row is not the header of a payload list
+2026-01-01T00:00:21Z list refused: row 0: the first row is not the header of a payload list
+2026-01-01T00:00:32Z list refused: row 0: the first row is not the header of a payload list
+2026-01-01T00:00:43Z list refused: row 0: the first row is not the header of a payload list
+2026-01-01T00:00:54Z list refused: row 0: the first row is not the header of a payload list
 2026-01-01T00:01:01Z list withdrawn: written 61 seconds ago, and 60 may be
-2026-01-01T00:01:10Z list loaded: serial 1, payloads 1
+2026-01-01T00:01:05Z list refused: row 0: the first row is not the header of a payload list
+2026-01-01T00:01:16Z list loaded: serial 1, payloads 1
 ",
 ];
 

@@ -68,6 +68,8 @@ pub enum Reread {
     Refused(ListFault),
     /// It has the payloads that are served.
     Same,
+    /// Its files are those that it was read from last, by their stamps, and weren't read: what was read last stands.
+    Unchanged,
     /// It has others, which are served from now on under this serial.
     Published(u32),
 }
@@ -80,6 +82,7 @@ impl Reread {
         match self {
             Reread::Refused(_) => Outcome::Refused,
             Reread::Same => Outcome::Same,
+            Reread::Unchanged => Outcome::Unchanged,
             Reread::Published(_) => Outcome::Taken,
         }
     }

@@ -54,7 +54,7 @@ pub fn tell_list<R: Clock, O: Write>(
 {
     match led {
         Reread::Refused(why) => tell_refused(rt, is_on, why, path, output),
-        Reread::Same => {}
+        Reread::Same | Reread::Unchanged => {}
         Reread::Published(serial) => {
             log(rt, is_on, output, &LogLine::Loaded { serial, payloads });
         }

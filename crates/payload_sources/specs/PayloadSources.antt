@@ -1,5 +1,7 @@
 -- What files say of a cache's payloads: a payload list, under the exceptions of a SLURM file where there is one.
-use Rattle.std.specs.Prelude.{◌≡◌, ◌⊎◌, ℕ, List, Option, None, Some, Ok, Err, option_map, ⊤}
+use Rattle.std.specs.Prelude.{◌≡◌, ◌⊎◌, ◌&&◌, ℕ, Bool, false, is_none, List, Option, None, Some, Ok, Err, option_map, ⊤}
+use Rattle.file_paths.specs.OpenedFiles.{same_stamp}
+use Rattle.file_paths.specs.declared.steady.Stamp.{Stamp}
 use Rattle.net_prefix.specs.PayloadSets.{IsPayloadSet}
 use Rattle.net_prefix.specs.declared.payload.Vrp.{Vrp}
 use Rattle.payload_lists.specs.PayloadLists.{IsListOf, IsRefusedAs, IsWrittenBy}
@@ -13,16 +15,36 @@ use Rattle.payload_sources.specs.declared.fault.SourceFault.{SourceFault}
 use Rattle.payload_sources.specs.declared.fault.SourceFault.TheVariants.{List as OfList, Slurm, SlurmDevice, Changed}
 use Rattle.payload_sources.specs.declared.fault.SourceFile.{SourceFile}
 use Rattle.payload_sources.specs.declared.fault.SourceFile.TheVariants as files
+use Rattle.payload_sources.specs.declared.opening.SourceStamps.{SourceStamps}
 
--- the texts of files that were opened, as far as they are known: of the list, and of the SLURM file where there is one; and the
--- second since 1970 at which the list's rows may have expired, where they may
+-- the stamps by which files that were opened are known again: of the list, and of the SLURM file where there is one, if each has
+-- one
+abbrev pub stamps_of : Option Stamp → Option (Option Stamp) → Option SourceStamps
+stamps_of None slurm = None
+stamps_of (Some list) None = Some (record { list = list; slurm = None })
+stamps_of (Some list) (Some None) = None
+stamps_of (Some list) (Some (Some file)) = Some (record { list = list; slurm = Some file })
+
+-- the stamps are the same, each in each number
+abbrev pub same_if_any : Option Stamp → Option Stamp → Bool
+same_if_any None other = is_none other
+same_if_any (Some stamp) None = false
+same_if_any (Some stamp) (Some other) = same_stamp stamp other
+
+abbrev pub same_stamps : SourceStamps → SourceStamps → Bool
+same_stamps stamps others = same_stamp stamps.list others.list && same_if_any stamps.slurm others.slurm
+
+-- the texts of files that were opened, as far as they are known: of the list, and of the SLURM file where there is one; the
+-- second since 1970 at which the list's rows may have expired, where they may; and the stamps of the files
 pub record SourceTexts : Type 0 where
   pub list : Option (List ℕ)
   pub slurm : Option (Option (List ℕ))
   pub second : Option ℕ
+  pub stamps : Option SourceStamps
 
-abbrev pub texts_of : {L : Type 0} → (L → Option (List ℕ)) → L → Option L → Option ℕ → SourceTexts
-texts_of remaining list slurm second = record { list = remaining list; slurm = option_map remaining slurm; second = second }
+abbrev pub texts_of : {L : Type 0} → (L → Option (List ℕ)) → (L → Option Stamp) → L → Option L → Option ℕ → SourceTexts
+texts_of remaining stamp list slurm second =
+    record { list = remaining list; slurm = option_map remaining slurm; second = second; stamps = stamps_of (stamp list) (option_map stamp slurm) }
 
 -- the set is that of the list that the text spells, at that second; of a file whose text isn't known nothing is said
 abbrev pub IsSetOfText : Option ℕ → Option (List ℕ) → List Vrp → Type 0

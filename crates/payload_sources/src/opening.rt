@@ -1,10 +1,11 @@
 //! The files that are opened.
 ghost use Rattle.std.specs.Prelude.{◌≡◌, Err, MatchResult, None, Ok, Some, option_map};
 ghost use Rattle.std.specs.Fn.{FnReturnsAt};
-ghost use Rattle.payload_sources.specs.OpenedSources.{Gives, Opens, OpensBehind};
-ghost use Rattle.payload_sources.specs.PayloadSources.{texts_of};
+ghost use Rattle.payload_sources.specs.OpenedSources.{Gives, Opens, OpensBehind, seen};
+ghost use Rattle.payload_sources.specs.PayloadSources.{same_if_any, same_stamps, stamps_of, texts_of};
 
 use crate::fault::{SourceFile, Unopened};
+use file_paths::{Stamp, Steady};
 use std::io::{self, Read};
 
 /// A list, and a SLURM file where there is one, as they were opened.
@@ -16,8 +17,73 @@ pub struct Sources<L> {
     pub second: Option<u64>,
 }
 
+/// The stamps of a list, and of a SLURM file where there is one.
+#[derive(Clone, Copy, Debug, PartialEq, Eq)]
+pub struct SourceStamps {
+    pub list: Stamp,
+    pub slurm: Option<Stamp>,
+}
+
+impl SourceStamps {
+    /// Whether they are these, each in each number.
+    pub fn are(self, others: SourceStamps) -> bool
+        ensures { result ≡ same_stamps self others }
+    {
+        self.list.is(others.list) && is_slurm_stamp(self.slurm, others.slurm)
+    }
+}
+
+// Whether the SLURM file's stamp is this, or there is none.
+fn is_slurm_stamp(stamp: Option<Stamp>, other: Option<Stamp>) -> bool
+    ensures { result ≡ same_if_any stamp other }
+{
+    let Some(stamp) = stamp else {
+        return other.is_none();
+    };
+    match other {
+        Some(other) => stamp.is(other),
+        None => false,
+    }
+}
+
+impl<L: Steady> Sources<L> {
+    /// The stamps by which the files are known again, if each is.
+    pub fn stamps(&self) -> Option<SourceStamps>
+        ensures { result ≡ stamps_of (L.stamp self.now.list) (option_map L.stamp self.now.slurm) }
+    {
+        match &self.slurm {
+            None => stamps_alone(self.list.stamp()),
+            Some(file) => stamps_with(self.list.stamp(), file.stamp()),
+        }
+    }
+}
+
+fn stamps_alone(list: Option<Stamp>) -> Option<SourceStamps>
+    ensures { result ≡ stamps_of list None }
+{
+    match list {
+        Some(list) => Some(SourceStamps { list, slurm: None }),
+        None => None,
+    }
+}
+
+fn stamps_with(list: Option<Stamp>, slurm: Option<Stamp>) -> Option<SourceStamps>
+    ensures { result ≡ stamps_of list (Some slurm) }
+{
+    let Some(list) = list else {
+        return None;
+    };
+    match slurm {
+        Some(file) => Some(SourceStamps {
+            list,
+            slurm: Some(file),
+        }),
+        None => None,
+    }
+}
+
 /// Opens the list at its path, and the SLURM file behind it where it has one, to be read at this second.
-pub fn open_sources<L: Read + Drop, F>(
+pub fn open_sources<L: Read + Steady + Drop, F>(
     csv: &str,
     slurm: Option<&str>,
     second: Option<u64>,
@@ -26,7 +92,7 @@ pub fn open_sources<L: Read + Drop, F>(
 where
     F: Fn(&str) -> io::Result<L>,
     requires { F.IsAlwaysCallable opens.now }
-    ensures { MatchResult result (λ sources. Opens (FnReturnsAt F.Fn opens.now) L.remaining second csv.now (option_map (λ path. path.now) slurm.entry) (Ok (texts_of L.remaining sources.list sources.slurm sources.second))) (λ unopened. Opens (FnReturnsAt F.Fn opens.now) L.remaining second csv.now (option_map (λ path. path.now) slurm.entry) (Err unopened.file)) }
+    ensures { MatchResult result (λ sources. Opens (FnReturnsAt F.Fn opens.now) L.remaining L.stamp second csv.now (option_map (λ path. path.now) slurm.entry) (Ok (texts_of L.remaining L.stamp sources.list sources.slurm sources.second))) (λ unopened. Opens (FnReturnsAt F.Fn opens.now) L.remaining L.stamp second csv.now (option_map (λ path. path.now) slurm.entry) (Err unopened.file)) }
 {
     match opens(csv) {
         Ok(list) => open_behind(list, slurm, second, opens),
@@ -38,7 +104,7 @@ where
 }
 
 // The list, and the SLURM file where it has a path.
-fn open_behind<L: Read + Drop, F>(
+fn open_behind<L: Read + Steady + Drop, F>(
     list: L,
     slurm: Option<&str>,
     second: Option<u64>,
@@ -47,7 +113,7 @@ fn open_behind<L: Read + Drop, F>(
 where
     F: Fn(&str) -> io::Result<L>,
     requires { F.IsAlwaysCallable opens.now }
-    ensures { MatchResult result (λ sources. OpensBehind (FnReturnsAt F.Fn opens.now) L.remaining second (option_map (λ path. path.now) slurm.entry) (L.remaining list) (Ok (texts_of L.remaining sources.list sources.slurm sources.second))) (λ unopened. OpensBehind (FnReturnsAt F.Fn opens.now) L.remaining second (option_map (λ path. path.now) slurm.entry) (L.remaining list) (Err unopened.file)) }
+    ensures { MatchResult result (λ sources. OpensBehind (FnReturnsAt F.Fn opens.now) L.remaining L.stamp second (option_map (λ path. path.now) slurm.entry) (seen L.remaining L.stamp list) (Ok (texts_of L.remaining L.stamp sources.list sources.slurm sources.second))) (λ unopened. OpensBehind (FnReturnsAt F.Fn opens.now) L.remaining L.stamp second (option_map (λ path. path.now) slurm.entry) (seen L.remaining L.stamp list) (Err unopened.file)) }
 {
     let Some(path) = slurm else {
         return Ok(Sources {

@@ -4,7 +4,7 @@ ghost use Rattle.payload_lists.specs.PayloadLists.{IsListOf};
 ghost use Rattle.payload_sources.specs.PayloadSources.{IsRead, IsRefused, IsRefusedList, IsRefusedSlurm, IsSaidBy, IsUnderFile, SaysWritten, texts_of};
 
 use crate::fault::{SourceFault, SourceFile};
-use crate::opening::Sources;
+use crate::opening::{SourceStamps, Sources};
 use file_paths::Steady;
 use net_prefix::Vrp;
 use payload_lists::{Listed, read_payloads};
@@ -23,6 +23,8 @@ pub struct SourceSet {
     pub slurm: Option<SlurmFile>,
     /// When the list says that it was written.
     pub written: Written,
+    /// The stamps that the files had when they were opened, by which they are known again, if each is.
+    pub stamps: Option<SourceStamps>,
 }
 
 /// The set of the list, under the exceptions of the SLURM file where there is one, or the first fault: that of the list, if
@@ -31,8 +33,9 @@ pub fn read_sources<L: Read + Steady + Drop>(
     alloc: Global,
     sources: Sources<L>,
 ) -> Result<SourceSet, SourceFault>
-    ensures { MatchResult result (λ read. IsRead (texts_of L.remaining sources.list sources.slurm sources.second) read.slurm read.set.keys × SaysWritten (texts_of L.remaining sources.list sources.slurm sources.second) read.written) (λ fault. IsRefused (texts_of L.remaining sources.list sources.slurm sources.second) fault) }
+    ensures { MatchResult result (λ read. IsRead (texts_of L.remaining L.stamp sources.list sources.slurm sources.second) read.slurm read.set.keys × SaysWritten (texts_of L.remaining L.stamp sources.list sources.slurm sources.second) read.written × (read.stamps ≡ (texts_of L.remaining L.stamp sources.list sources.slurm sources.second).stamps)) (λ fault. IsRefused (texts_of L.remaining L.stamp sources.list sources.slurm sources.second) fault) }
 {
+    let stamps = sources.stamps();
     let listed = match read_steadily(alloc, sources.list, sources.second) {
         Ok(listed) => listed,
         Err(fault) => return Err(fault),
@@ -43,12 +46,14 @@ pub fn read_sources<L: Read + Steady + Drop>(
             set: listed.loaded.set,
             slurm: None,
             written,
+            stamps,
         }),
         Some(file) => match read_under(alloc, listed.loaded.set, file) {
             Ok((set, said)) => Ok(SourceSet {
                 set,
                 slurm: Some(said),
                 written,
+                stamps,
             }),
             Err(fault) => Err(fault),
         },

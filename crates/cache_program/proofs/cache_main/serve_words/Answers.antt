@@ -1,4 +1,4 @@
-use Rattle.std.proofs.Common.{◌≡◌, ◌∙◌, Some, rules}
+use Rattle.std.proofs.Common.{◌≡◌, ◌∙◌, Some, rules, string_bytes}
 use Rattle.wires.specs.Wires.{nothing_told}
 use Rattle.cache_program.proofs.Attending.{attends_as}
 use Rattle.cache_program.proofs.Begun.{aged_by_system, listens_there, served_as}
@@ -17,5 +17,6 @@ returns-clause-serves g c =
     (λ age told. told)
     (λ wire opened. let listens : opened.0 ≡ nothing_told (Some (is.2).listen) = (let gives = opened.1 in search rules) in opened.2 ∙ listens)
     (λ second told. tt)
-    (λ moments. attends_as _ _ _ _ _ _ is.2 is.1 moments (λ path there given. tt)) in
+    (λ moments. attends_as _ _ _ _ _ _ is.2 is.1 moments
+    (λ path socket given. let opened : string_bytes socket.path ≡ given.0.now = (let gives = given.1 in search rules) in opened ∙ given.2)) in
     (is.0, is.1, is.2, is.3, (is.4.0, path ∙ is.4.1.shows, is.4.2), so, listens_there _ _ _ _ is.2 is.1 _ _ served _ so))

@@ -1,6 +1,6 @@
 use Rattle.std.proofs.Common.{◌+◌, ◌++◌, ◌∷◌, [], Bool, ap, arith, refl, subst, ◌∙◌}
 use Rattle.cache_desk.specs.Desks.{StopsAt, stopped_at}
-use Rattle.log_lines.specs.declared.every.Every.{Every}
+use Rattle.cache_program.specs.declared.interval.Interval.{Interval}
 use Rattle.cache_program.specs.ServedTurns.{Moment}
 use Rattle.cache_program.proofs.Attending.{all_attended, attends_once, goes_one_more, stopped_attended}
 use Rattle.cache_program.proofs.ServedTurns.{none_served, once_of, so_many_served, turn_served}
@@ -15,9 +15,9 @@ loop-preserved g c =
     let serves = c.in_ok-serve_once.ensures.serves in
     let at : Moment = record { now = c.in_ok-now.now; age = serves.0; asked = c.hear-asked.result; led = serves.1 } in (
       λ off. c.tell_if_due.ensures off ∙ (c.tell_routers.ensures off ∙ (c.serve_once.ensures.quiet off ∙ so_far.0 off)),
-      ap (λ (e : Every). e.seconds) c.serve_once.ensures.due ∙ so_far.1,
+      ap (λ (e : Interval). e.seconds) serves.5 ∙ so_far.1,
       so_far.2 ++ at ∷ [],
-      turn_served _ _ _ _ _ _ at _ _ _ so_far.2 _ _ _ _ so_far.1 c.serve_once.ensures.due so_far.3 c.in_ok-now.ensures.told c.in_ok-now.ensures.forward serves.2 (once_of _ _ (λ sources given. (c.in_ok-second.second, given)) _ at _ _ serves.4) c.wait.ensures,
+      turn_served _ _ _ _ _ _ at _ _ _ so_far.2 _ _ _ _ so_far.1 serves.5 so_far.3 c.in_ok-now.ensures.told c.in_ok-now.ensures.forward serves.2 (once_of _ _ (λ sources given. (c.in_ok-second.second, given)) _ at _ _ serves.4) c.wait.ensures,
       goes_one_more _ _ _ _ so_far.2 at _ _ _ so_far.4 (attends_once g.Q.Operators.wish g.Q.Operators.line g.Q.Operators.turns g.Q.Operators.hears at _ _ _ c.hear-asked.ensures serves.3)
           (subst (λ (ends : Bool). StopsAt (stopped_at c.serve_once.new.desk) c.in_ok-now.now ends) c.if-has_stopped.false c.has_stopped.ensures),
     )
@@ -35,7 +35,7 @@ returns-then-has_stopped-clause-turns g c =
     let serves = c.in_ok-serve_once.ensures.serves in
     let at : Moment = record { now = c.in_ok-now.now; age = serves.0; asked = c.hear-asked.result; led = serves.1 } in
     so_many_served _ _ _ _ _ (c.loop.counter + 1) c.args.turns _ _ (so_far.2 ++ at ∷ []) _ _
-    (turn_served _ _ _ _ _ _ at _ _ _ so_far.2 _ _ _ _ so_far.1 c.serve_once.ensures.due so_far.3 c.in_ok-now.ensures.told c.in_ok-now.ensures.forward serves.2 (once_of _ _ (λ sources given. (c.in_ok-second.second, given)) _ at _ _ serves.4) refl)
+    (turn_served _ _ _ _ _ _ at _ _ _ so_far.2 _ _ _ _ so_far.1 serves.5 so_far.3 c.in_ok-now.ensures.told c.in_ok-now.ensures.forward serves.2 (once_of _ _ (λ sources given. (c.in_ok-second.second, given)) _ at _ _ serves.4) refl)
     (omega (arith, c.loop-test.true))
     (stopped_attended g.Q.Operators.wish g.Q.Operators.line g.Q.Operators.turns g.Q.Operators.hears c.args.turns so_far.2 at _ _ _ so_far.4 (attends_once g.Q.Operators.wish g.Q.Operators.line g.Q.Operators.turns g.Q.Operators.hears at _ _ _ c.hear-asked.ensures serves.3)
     (subst (λ (ends : Bool). StopsAt (stopped_at c.serve_once.new.desk) c.in_ok-now.now ends) c.if-has_stopped.true c.has_stopped.ensures))

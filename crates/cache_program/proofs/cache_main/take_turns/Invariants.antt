@@ -12,5 +12,5 @@ invariant-loop g l =
     (l.fn.settings.log ≡ false → l.output ≡ l.fn.output)
     × (l.reread.seconds ≡ l.fn.settings.reread)
     × (moments : List Moment)
-    × AreServed (Gives (FnReturnsAt g.F.Fn l.fn.opens) g.L.Read.remaining l.fn.settings) (Ages (FnReturnsAt g.A.Fn l.fn.ages) l.fn.settings) l.fn.settings.reread l.reread.last l.counter (g.C.SecondsClock.readings l.fn.clock) (g.C.SecondsClock.readings l.clock) moments l.fn.served l.served
+    × AreServed (Gives (FnReturnsAt g.F.Fn l.fn.opens) g.L.Read.remaining g.L.Steady.stamp l.fn.settings) (Ages (FnReturnsAt g.A.Fn l.fn.ages) l.fn.settings) l.fn.settings.reread l.reread.since l.counter (g.C.SecondsClock.readings l.fn.clock) (g.C.SecondsClock.readings l.clock) moments l.fn.served l.served
     × GoesOn g.Q.Operators.wish g.Q.Operators.line g.Q.Operators.turns g.Q.Operators.hears moments l.fn.desk l.desk

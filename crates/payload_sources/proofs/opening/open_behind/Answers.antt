@@ -5,5 +5,5 @@ use Rattle.payload_sources.proofs.opening.open_behind.Goals as goal
 
 pub returns-in-Ok : goal.returns-in-Ok
 returns-in-Ok g c =
-    both (FnReturnsAt g.F.Fn c.args.opens.now) g.L.Read.remaining c.args.second _ c.in-Some.path.now c.args.list c.opens.result c.in-Ok.file (ap (option_map (λ (path : Bor (List ℕ)). path.now)) c.in-Some.is)
+    both (FnReturnsAt g.F.Fn c.args.opens.now) g.L.Read.remaining g.L.Steady.stamp c.args.second _ c.in-Some.path.now c.args.list c.opens.result c.in-Ok.file (ap (option_map (λ (path : Bor (List ℕ)). path.now)) c.in-Some.is)
     (record { shown = c.in-Some.path; shows = refl; says = record { met = c.opens.ensures } }) c.in-Ok.is
