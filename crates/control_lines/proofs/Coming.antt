@@ -1,10 +1,11 @@
 -- No octet of an operator is lost, and none comes twice.
-use Rattle.std.proofs.Common.{◌≡◌, ◌≢◌, ◌==◌, ◌≤◌, ◌&&◌, ◌++◌, ◌∷◌, ◌∙◌, if◌then◌else◌, inl, inr, ℕ, Bool, true, false, not, List, [], Option, length, take, drop, refl, sym, ap, arith}
-use Rattle.std.specs.Io.KnownBytes.{Appends}
+use Rattle.std.proofs.Common.{◌≡◌, ◌≢◌, ◌==◌, ◌≤◌, ◌&&◌, ◌++◌, ◌∷◌, ◌∙◌, if◌then◌else◌, inl, inr, ℕ, Bool, true, false, not, List, [], Option, None, Some, length, take, drop, refl, sym, ap, subst, arith}
+use Rattle.std.specs.Io.KnownBytes.{Appends, Consumes, Keeps}
 use Rattle.std.proofs.Math.Seq.{drop-length}
 use Rattle.std.proofs.lemmas.Bool.{false≢true}
 use Rattle.std.proofs.lemmas.List.{append-nil, append_assoc, length-take, take-append-drop}
 use Rattle.control_lines.specs.Coming.{AnswersTakeTheirLine, VisitsLoseNone, VisitsWriteInOrder, line_so_far, unanswered}
+use Rattle.control_lines.proofs.Resting.{keeps}
 use Rattle.control_lines.specs.Lines.{GathersLine, line_feed}
 use Rattle.control_lines.specs.Talks.{Follows, Hears, Says, SaysIf, Writes, awaits_line, shown_wish, wish_behind}
 use Rattle.control_lines.specs.declared.line_buffer.Heard.{Heard}
@@ -40,16 +41,25 @@ heard octets old new none stays hears = gathered hears.heard hears.count octets 
 at_rest : (old : Talk) → old.wish ≡ Nothing → unanswered old ≡ old.line ++ old.chunk
 at_rest old none = ap (λ (wish : Wish). line_so_far wish old.line ++ old.chunk) none
 
+-- where nothing was read, no octets came
+nothing_came : (before after : Option (List ℕ)) → Keeps before after → Consumes before after []
+nothing_came None after keeps = tt
+nothing_came (Some had) None keeps = keeps
+nothing_came (Some had) (Some has) keeps = sym keeps
+
+unread_came : (before after : Option (List ℕ)) → after ≡ before → Consumes before after []
+unread_came before after same = nothing_came before after (subst (λ (there : Option (List ℕ)). Keeps before there) (sym same) (keeps before))
+
 pub visits_lose_none : VisitsLoseNone
-visits_lose_none false old new before after taken behind rests stays = ([], inl refl, ap unanswered rests.0 ∙ sym (append-nil (unanswered old)))
-visits_lose_none true old new before after taken behind (inl writes) stays = ([], inl refl, ap unanswered writes.same ∙ sym (append-nil (unanswered old)))
+visits_lose_none false old new before after taken behind rests stays = ([], nothing_came before after rests.1, ap unanswered rests.0 ∙ sym (append-nil (unanswered old)))
+visits_lose_none true old new before after taken behind (inl writes) stays = ([], nothing_came before after writes.unread, ap unanswered writes.same ∙ sym (append-nil (unanswered old)))
 visits_lose_none true old new before after taken behind (inr (awaits, inl more)) stays =
     let none = awaited old.wish awaits.0 in
-    ([], inl refl, heard old.chunk old new none stays more.hears ∙ (sym (at_rest old none) ∙ sym (append-nil (unanswered old))))
+    ([], unread_came before after more.unread, heard old.chunk old new none stays more.hears ∙ (sym (at_rest old none) ∙ sym (append-nil (unanswered old))))
 visits_lose_none true old new before after taken behind (inr (awaits, inr fresh)) stays =
     let none = awaited old.wish awaits.0 in (
       fresh.came,
-      inr fresh.read,
+      fresh.read,
       heard fresh.came old new none stays fresh.hears
           ∙ sym (ap (λ (had : List ℕ). had ++ fresh.came) (at_rest old none ∙ (ap (λ (chunk : List ℕ). old.line ++ chunk) fresh.none ∙ append-nil old.line))),
     )
@@ -78,19 +88,26 @@ answers_take_their_line goes_on octets old new asked said =
 
 -- ---- what is written
 
-pub written : (count : ℕ) (old new : Talk) (taken behind : Option (List ℕ)) → count ≢ 0 → count ≤ length old.saying → new ≡ record old { saying = drop count old.saying } → Appends taken behind (take count old.saying) → Writes old new taken behind
-written count old new taken behind some few left took = record {
+pub written : (count : ℕ) (old new : Talk) (before after taken behind : Option (List ℕ)) → count ≢ 0 → count ≤ length old.saying → new ≡ record old { saying = drop count old.saying } → Appends taken behind (take count old.saying) → Keeps before after → Writes old new before after taken behind
+written count old new before after taken behind some few left took unread = record {
   octets = take count old.saying;
   some = λ none. some (sym (length-take-few few) ∙ ap length none);
   front = sym (take-append-drop count old.saying) ∙ ap (λ (rest : List ℕ). take count old.saying ++ rest) (sym (ap (λ (talk : Talk). talk.saying) left));
   same = left ∙ ap (λ (rest : List ℕ). record old { saying = rest }) (sym (ap (λ (talk : Talk). talk.saying) left));
   took = took;
+  unread = unread;
 }
   where
     length-take-few : count ≤ length old.saying → length (take count old.saying) ≡ count
     length-take-few within = let is = length-take count old.saying in omega (arith, is, within)
 
+-- where nothing was written, the stream took nothing
+nothing_took : (taken behind : Option (List ℕ)) → Keeps taken behind → Appends taken behind []
+nothing_took None behind keeps = tt
+nothing_took (Some had) None keeps = keeps
+nothing_took (Some had) (Some has) keeps = keeps ∙ sym (append-nil had)
+
 pub visits_write_in_order : VisitsWriteInOrder
-visits_write_in_order false old new before after taken behind rests some = ([], inr (refl, rests.1 some), ap (λ (talk : Talk). talk.saying) (sym rests.0))
-visits_write_in_order true old new before after taken behind (inl writes) some = (writes.octets, inl writes.took, writes.front)
+visits_write_in_order false old new before after taken behind rests some = ([], nothing_took taken behind rests.2, ap (λ (talk : Talk). talk.saying) (sym rests.0))
+visits_write_in_order true old new before after taken behind (inl writes) some = (writes.octets, writes.took, writes.front)
 visits_write_in_order true old new before after taken behind (inr (awaits, listens)) some = absurd (some awaits.1)

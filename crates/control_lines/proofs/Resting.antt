@@ -1,5 +1,5 @@
 -- Visits at which nothing came or went.
-use Rattle.std.proofs.Common.{◌≡◌, ◌≢◌, ◌==◌, ◌&&◌, ◌∙◌, inl, inr, ℕ, zero, suc, Bool, true, false, not, List, [], ◌∷◌, Option, None, Some, length, take, refl, sym}
+use Rattle.std.proofs.Common.{◌≡◌, ◌&&◌, ◌∙◌, inl, inr, ℕ, zero, suc, Bool, true, false, not, List, [], Option, None, Some, take, refl, sym}
 use Rattle.std.specs.Io.KnownBytes.{Appends, Consumes, Keeps}
 use Rattle.std.proofs.lemmas.Bool.{false≢true}
 use Rattle.std.proofs.lemmas.List.{append-nil}
@@ -27,22 +27,18 @@ pub fresh_none : (count : ℕ) (octets : List ℕ) (before after : Option (List 
 fresh_none zero octets before after came is = none_came before after came
 fresh_none (suc count) octets before after came is = absurd cc
 
-some_said : (saying : List ℕ) → (length saying == 0) ≡ false → saying ≢ []
-some_said [] some none = absurd cc
-some_said (octet ∷ octets) some none = absurd cc
+pub exchanged_by_writing : (result : Option Bool) (old new : Talk) (before after taken behind : Option (List ℕ)) → Writing result old new before after taken behind → Exchanges result old new before after taken behind
+exchanged_by_writing None old new before after taken behind writes = writes
+exchanged_by_writing (Some false) old new before after taken behind writes = writes
+exchanged_by_writing (Some true) old new before after taken behind writes = inl writes
 
-pub exchanged_by_writing : (result : Option Bool) (old new : Talk) (before after taken behind : Option (List ℕ)) → (length old.saying == 0) ≡ false → Writing result old new taken behind → Exchanges result old new before after taken behind
-exchanged_by_writing None old new before after taken behind some writes = (writes.0, λ said. writes.1, λ none. absurd (some_said old.saying some none))
-exchanged_by_writing (Some false) old new before after taken behind some writes = (writes.0, λ said. writes.1, λ none. absurd (some_said old.saying some none))
-exchanged_by_writing (Some true) old new before after taken behind some writes = inl writes
-
-pub exchanged_by_listening : (result : Option Bool) (old new : Talk) (before after taken behind : Option (List ℕ)) → Awaits old → Listening result old new before after → Exchanges result old new before after taken behind
-exchanged_by_listening None old new before after taken behind awaits listens = (listens.0, λ some. absurd (some awaits.1), λ none. listens.1)
-exchanged_by_listening (Some false) old new before after taken behind awaits listens = (listens.0, λ some. absurd (some awaits.1), λ none. listens.1)
+pub exchanged_by_listening : (result : Option Bool) (old new : Talk) (before after taken behind : Option (List ℕ)) → Awaits old → Listening result old new before after taken behind → Exchanges result old new before after taken behind
+exchanged_by_listening None old new before after taken behind awaits listens = listens
+exchanged_by_listening (Some false) old new before after taken behind awaits listens = listens
 exchanged_by_listening (Some true) old new before after taken behind awaits listens = inr (awaits, listens)
 
 pub rests : (old : Talk) (before taken : Option (List ℕ)) → Rests old old before before taken taken
-rests old before taken = (refl, λ some. keeps taken, λ none. keeps before)
+rests old before taken = (refl, keeps before, keeps taken)
 
 pub late : (has_moved : Bool) (now at moved : ℕ) (old new : Talk) (before after taken behind : Option (List ℕ)) → (has_moved && not (has_begun old && has_begun new)) ≡ false → is_late at now ≡ true → Exchanges (Some has_moved) old new before after taken behind → Visits None now at moved old new before after taken behind
 late false now at moved old new before after taken behind slow past exchanged = inl exchanged

@@ -1,6 +1,6 @@
 -- What has come of an operator (own).
-use Rattle.std.specs.Prelude.{◌≡◌, ◌≢◌, ◌++◌, ◌⊎◌, ◌∷◌, ℕ, Bool, false, List, [], Option, Some}
-use Rattle.std.specs.Io.KnownBytes.{Appends, Consumes, Keeps}
+use Rattle.std.specs.Prelude.{◌≡◌, ◌≢◌, ◌++◌, ◌∷◌, ℕ, Bool, false, List, [], Option, Some}
+use Rattle.std.specs.Io.KnownBytes.{Appends, Consumes}
 use Rattle.control_lines.specs.Lines.{line_feed}
 use Rattle.control_lines.specs.Talks.{Exchanges, SaysIf, shown_wish}
 use Rattle.control_lines.specs.declared.talk.Talk.{Talk}
@@ -17,20 +17,16 @@ line_so_far More line = line
 abbrev pub unanswered : Talk → List ℕ
 unanswered talk = line_so_far talk.wish talk.line ++ talk.chunk
 
--- octets that came: none, or those that the stream gave
-abbrev pub Came : List ℕ → Option (List ℕ) → Option (List ℕ) → Type 0
-Came octets before after = (octets ≡ []) ⊎ Consumes before after octets
-
--- at a visit of one who stays the octets that came are put behind those that had come, and none is lost
+-- at a visit of one who stays just the octets that the stream gave are put behind those that had come, and none is lost
 abbrev pub VisitsLoseNone : Type 0
 VisitsLoseNone = (has_moved : Bool) (old new : Talk) (before after taken taken_behind : Option (List ℕ)) → Exchanges (Some has_moved) old new before after taken taken_behind → new.is_leaving ≡ false
-    → (octets : List ℕ) × Came octets before after × (unanswered new ≡ unanswered old ++ octets)
+    → (octets : List ℕ) × Consumes before after octets × (unanswered new ≡ unanswered old ++ octets)
 
 -- an answer takes away its line, which is whole, with its line feed, and what came behind it stays
 abbrev pub AnswersTakeTheirLine : Type 0
 AnswersTakeTheirLine = (goes_on : Bool) (octets : List ℕ) (old new : Talk) → shown_wish old ≡ Answer → SaysIf (shown_wish old) goes_on octets old new → unanswered old ≡ (old.line ++ line_feed ∷ []) ++ unanswered new
 
--- whoever is visited and stays has been written the first of the octets that were said, or none, and the others are still to be
+-- of what was said to one who is visited and stays the stream took the first octets, or none, and the others are still to be written
 abbrev pub VisitsWriteInOrder : Type 0
 VisitsWriteInOrder = (has_moved : Bool) (old new : Talk) (before after taken taken_behind : Option (List ℕ)) → Exchanges (Some has_moved) old new before after taken taken_behind → old.saying ≢ []
-    → (octets : List ℕ) × (Appends taken taken_behind octets ⊎ ((octets ≡ []) × Keeps taken taken_behind)) × (old.saying ≡ octets ++ new.saying)
+    → (octets : List ℕ) × Appends taken taken_behind octets × (old.saying ≡ octets ++ new.saying)

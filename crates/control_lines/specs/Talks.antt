@@ -62,44 +62,46 @@ pub record Hears (octets : List ℕ) (old new : Talk) : Type 0 where
   pub left : new.chunk ≡ drop count octets
   pub follows : Follows heard old new
 
--- the first octets of what was said were written, and the stream took just them
-pub record Writes (old new : Talk) (taken taken_behind : Option (List ℕ)) : Type 0 where
+-- nothing came or went: what may be read of the stream is as it was, and so is what it took
+abbrev pub Rests : Talk → Talk → Option (List ℕ) → Option (List ℕ) → Option (List ℕ) → Option (List ℕ) → Type 0
+Rests old new before after taken taken_behind = (new ≡ old) × Keeps before after × Keeps taken taken_behind
+
+-- the first octets of what was said were written: the stream took just them, and nothing was read of it
+pub record Writes (old new : Talk) (before after taken taken_behind : Option (List ℕ)) : Type 0 where
   pub octets : List ℕ
   pub some : octets ≢ []
   pub front : old.saying ≡ octets ++ new.saying
   pub same : new ≡ record old { saying = new.saying }
   pub took : Appends taken taken_behind octets
+  pub unread : Keeps before after
 
 -- a line goes on by octets that had come already
-pub record HearsMore (old new : Talk) (before after : Option (List ℕ)) : Type 0 where
+pub record HearsMore (old new : Talk) (before after taken taken_behind : Option (List ℕ)) : Type 0 where
   pub some : old.chunk ≢ []
   pub unread : after ≡ before
+  pub unwritten : taken_behind ≡ taken
   pub hears : Hears old.chunk old new
 
 -- or else by those that the stream gives
-pub record HearsNew (old new : Talk) (before after : Option (List ℕ)) : Type 0 where
+pub record HearsNew (old new : Talk) (before after taken taken_behind : Option (List ℕ)) : Type 0 where
   pub none : old.chunk ≡ []
   pub came : List ℕ
   pub some : came ≢ []
   pub read : Consumes before after came
+  pub unwritten : Keeps taken taken_behind
   pub hears : Hears came old new
 
--- what listening led to: nothing came, also where the operator is gone, and the stream has left what it had; or octets did
-abbrev pub Listening : Option Bool → Talk → Talk → Option (List ℕ) → Option (List ℕ) → Type 0
-Listening None old new before after = (new ≡ old) × Keeps before after
-Listening (Some false) old new before after = (new ≡ old) × Keeps before after
-Listening (Some true) old new before after = HearsMore old new before after ⊎ HearsNew old new before after
+-- what listening led to: nothing came, also where the operator is gone; or octets did
+abbrev pub Listening : Option Bool → Talk → Talk → Option (List ℕ) → Option (List ℕ) → Option (List ℕ) → Option (List ℕ) → Type 0
+Listening None old new before after taken taken_behind = Rests old new before after taken taken_behind
+Listening (Some false) old new before after taken taken_behind = Rests old new before after taken taken_behind
+Listening (Some true) old new before after taken taken_behind = HearsMore old new before after taken taken_behind ⊎ HearsNew old new before after taken taken_behind
 
--- what writing led to: nothing went, also where the operator is gone, and the stream has taken nothing; or octets did
-abbrev pub Writing : Option Bool → Talk → Talk → Option (List ℕ) → Option (List ℕ) → Type 0
-Writing None old new taken taken_behind = (new ≡ old) × Keeps taken taken_behind
-Writing (Some false) old new taken taken_behind = (new ≡ old) × Keeps taken taken_behind
-Writing (Some true) old new taken taken_behind = Writes old new taken taken_behind
-
--- nothing came or went: of what was said the stream has taken nothing, and where all of it is written it has left what it had
-abbrev pub Rests : Talk → Talk → Option (List ℕ) → Option (List ℕ) → Option (List ℕ) → Option (List ℕ) → Type 0
-Rests old new before after taken taken_behind =
-    (new ≡ old) × (old.saying ≢ [] → Keeps taken taken_behind) × (old.saying ≡ [] → Keeps before after)
+-- what writing led to: nothing went, also where the operator is gone; or octets did
+abbrev pub Writing : Option Bool → Talk → Talk → Option (List ℕ) → Option (List ℕ) → Option (List ℕ) → Option (List ℕ) → Type 0
+Writing None old new before after taken taken_behind = Rests old new before after taken taken_behind
+Writing (Some false) old new before after taken taken_behind = Rests old new before after taken taken_behind
+Writing (Some true) old new before after taken taken_behind = Writes old new before after taken taken_behind
 
 -- all is written, and a line is to come
 abbrev pub Awaits : Talk → Type 0
@@ -109,7 +111,8 @@ Awaits talk = (awaits_line talk.wish ≡ true) × (talk.saying ≡ []) × (talk.
 abbrev pub Exchanges : Option Bool → Talk → Talk → Option (List ℕ) → Option (List ℕ) → Option (List ℕ) → Option (List ℕ) → Type 0
 Exchanges None old new before after taken taken_behind = Rests old new before after taken taken_behind
 Exchanges (Some false) old new before after taken taken_behind = Rests old new before after taken taken_behind
-Exchanges (Some true) old new before after taken taken_behind = Writes old new taken taken_behind ⊎ (Awaits old × Listening (Some true) old new before after)
+Exchanges (Some true) old new before after taken taken_behind =
+    Writes old new before after taken taken_behind ⊎ (Awaits old × Listening (Some true) old new before after taken taken_behind)
 
 -- that long ago is too long
 abbrev pub is_late : ℕ → ℕ → Bool

@@ -3,8 +3,9 @@ ghost use Rattle.std.specs.Prelude.{◌≡◌, ◌≢◌, ◌≤◌, [], IfOk, O
 ghost use Rattle.std.specs.Bool.{OnFalse, OnTrue};
 ghost use Rattle.std.specs.Io.KnownBytes.{Consumes, Keeps};
 
+use crate::stream::Stream;
 use std::alloc::{AllocError, Global};
-use std::io::{self, Read};
+use std::io;
 use std::marker::Model;
 
 // How many octets are read at once.
@@ -67,11 +68,12 @@ impl Chunk {
 
     /// What the stream gives takes the place of those that were read before. Answers how many octets that are.
     #[tactic(auto, using(crate::proofs::Resting::fresh_none))]
-    pub fn fill<S: Read>(&mut self, stream: &mut S) -> io::Result<usize>
+    pub fn fill<S: Stream>(&mut self, stream: &mut S) -> io::Result<usize>
         ensures count { IfOk result (λ count. length self.new ≡ count) }
         ensures came { IfOk result (λ count. Consumes (S.remaining stream.old) (S.remaining stream.new) self.new) }
         ensures end { IfOk result (λ count. count ≡ 0 → (self.new ≡ []) × Keeps (S.remaining stream.old) (S.remaining stream.new)) }
         ensures failed { OnErr result ((self.new ≡ []) × Keeps (S.remaining stream.old) (S.remaining stream.new)) }
+        ensures unwritten { Keeps (S.contents stream.old) (S.contents stream.new) }
     {
         self.from = 0;
         self.to = 0;

@@ -2,9 +2,10 @@
 ghost use Rattle.std.specs.Prelude.{◌≡◌, ◌&&◌, [], IfOk, IfSome, false};
 ghost use Rattle.control_lines.specs.Talks.{Exchanges, Listening, SaysIf, Stays, Visits, Writing, has_begun, is_late, shown_wish, silent};
 
+use crate::stream::Stream;
 use crate::talk::{Talk, Wish};
 use std::alloc::{AllocError, Global};
-use std::io::{ErrorKind, Read, Write};
+use std::io::ErrorKind;
 
 /// For how many seconds an operator may move nothing: no line begins, one that has begun isn't whole, or none of what is said
 /// is taken (own choice).
@@ -19,7 +20,7 @@ pub struct Operator<S> {
     moved: u64,
 }
 
-impl<S: Read + Write + Drop> Operator<S> {
+impl<S: Stream + Drop> Operator<S> {
     /// One who has come at this moment.
     pub fn new(alloc: Global, stream: S, now: u64) -> Result<Self, AllocError>
         ensures talk { IfOk result (λ operator. operator.talk ≡ silent) }
@@ -113,7 +114,7 @@ impl<S: Read + Write + Drop> Operator<S> {
 
     #[tactic(auto, using(crate::proofs::Coming::written, crate::proofs::Resting::none_taken))]
     fn write(&mut self) -> Option<bool>
-        ensures writes { Writing result self.old.talk self.new.talk (S.contents self.old.stream) (S.contents self.new.stream) }
+        ensures writes { Writing result self.old.talk self.new.talk (S.remaining self.old.stream) (S.remaining self.new.stream) (S.contents self.old.stream) (S.contents self.new.stream) }
         ensures same { self.new.moved ≡ self.old.moved }
     {
         match self.stream.write(self.talk.saying.octets()) {
@@ -128,7 +129,7 @@ impl<S: Read + Write + Drop> Operator<S> {
 
     // Goes on with the line: by what was read already, or else by what has come.
     fn listen(&mut self) -> Option<bool>
-        ensures listens { Listening result self.old.talk self.new.talk (S.remaining self.old.stream) (S.remaining self.new.stream) }
+        ensures listens { Listening result self.old.talk self.new.talk (S.remaining self.old.stream) (S.remaining self.new.stream) (S.contents self.old.stream) (S.contents self.new.stream) }
         ensures same { self.new.moved ≡ self.old.moved }
     {
         if self.talk.chunk.is_empty() {
@@ -140,7 +141,7 @@ impl<S: Read + Write + Drop> Operator<S> {
 
     fn read(&mut self) -> Option<bool>
         requires { self.old.talk.chunk ≡ [] }
-        ensures listens { Listening result self.old.talk self.new.talk (S.remaining self.old.stream) (S.remaining self.new.stream) }
+        ensures listens { Listening result self.old.talk self.new.talk (S.remaining self.old.stream) (S.remaining self.new.stream) (S.contents self.old.stream) (S.contents self.new.stream) }
         ensures same { self.new.moved ≡ self.old.moved }
     {
         match self.talk.chunk.fill(&mut self.stream) {

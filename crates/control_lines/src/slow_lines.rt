@@ -1,7 +1,7 @@
 //! Lines that come slowly.
 
-use crate::{Operator, Wish};
-use std::io::{self, Read, Write};
+use crate::{Operator, Stream, Wish};
+use std::io;
 use std::test::Fail;
 
 // A connection on which an octet comes at each visit, and a line feed where these are used up.
@@ -10,7 +10,7 @@ struct Drip {
     left: u8,
 }
 
-impl Read for Drip {
+impl Stream for Drip {
     fn read(&mut self, buf: &mut [u8]) -> io::Result<usize> {
         let Some(octet) = buf.first_mut() else {
             return Ok(0);
@@ -19,15 +19,9 @@ impl Read for Drip {
         self.left = self.left.saturating_sub(1);
         Ok(1)
     }
-}
 
-impl Write for Drip {
     fn write(&mut self, buf: &[u8]) -> io::Result<usize> {
         Ok(buf.len())
-    }
-
-    fn flush(&mut self) -> io::Result<()> {
-        Ok(())
     }
 }
 

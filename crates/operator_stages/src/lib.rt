@@ -6,10 +6,10 @@
 ghost use Rattle.std.specs.Prelude.{⊤};
 ghost use Rattle.operator_stages.specs.Askers.{line_of, wish_at};
 
-use control_lines::{Operator, Operators, Wish};
+use control_lines::{Operator, Operators, Stream, Wish};
 use std::alloc::{AllocError, Global};
 use std::cell::Cell;
-use std::io::{self, ErrorKind, Read, Write};
+use std::io::{self, ErrorKind};
 
 /// What is asked, and how each answer begins and ends.
 #[derive(Clone, Copy)]
@@ -78,7 +78,7 @@ impl<'a> Line<'a> {
     }
 }
 
-impl Read for Line<'_> {
+impl Stream for Line<'_> {
     fn read(&mut self, buf: &mut [u8]) -> io::Result<usize> {
         if self.fails() {
             return Err(io::Error::from(ErrorKind::ConnectionReset));
@@ -88,9 +88,7 @@ impl Read for Line<'_> {
         buf[..count].copy_from_slice(&line[..count]);
         Ok(count)
     }
-}
 
-impl Write for Line<'_> {
     fn write(&mut self, buf: &[u8]) -> io::Result<usize> {
         if self.fails() {
             return Err(io::Error::from(ErrorKind::BrokenPipe));
@@ -99,10 +97,6 @@ impl Write for Line<'_> {
         self.seen
             .note(buf.starts_with(beginning) && buf.ends_with(end));
         Ok(buf.len())
-    }
-
-    fn flush(&mut self) -> io::Result<()> {
-        Ok(())
     }
 }
 

@@ -21,7 +21,7 @@ use Rattle.speaker_turns.specs.Turns.{TakesTurn, Turns, with_remote}
 use Rattle.speaker_turns.specs.declared.end.End.{End}
 use Rattle.speaker_turns.specs.declared.end.End.TheVariants.{Peer}
 use Rattle.speaker_desk.specs.Answering.{AnswersLine, AnswersText, ClearsSlot, Commands, FollowsAnswer, IsAt, IsCleared, IsObeyed, IsTextOf, IsToldWhere, Stops, StopsBelow, added_by, settled}
-use Rattle.speaker_desk.specs.Attended.{AttendsBelow, AttendsTurns, AttendsWish, BeginsBelow, BeginsIf, EnablesAll, EndsRounds, Fails, Hall, IsStopped, LetsIf, LetsThrough, TakesRound, TakesRounds, may_begin}
+use Rattle.speaker_desk.specs.Attended.{AttendsBelow, AttendsTurns, AttendsWish, BeginsBelow, BeginsIf, EnablesAll, EndsRounds, Fails, Hall, IsStopped, LetsIf, LetsThrough, StopsAt, TakesRound, TakesRounds, may_begin}
 use Rattle.speaker_desk.specs.Moves.{AreOperators, AreWell, AsksFor, Move, MovesAll, TakesMoves, moments_in}
 use Rattle.speaker_desk.specs.Moves.Move.{Turned, Stopped, Obeyed, Let, Placed}
 use Rattle.speaker_desk.specs.Standing.{DeskState, Standing}
@@ -265,16 +265,17 @@ module _ {P : Type 0} (wish : P → ℕ → Wish) (line : P → ℕ → List ℕ
   pub attends_all : (count now : ℕ) (old new : Hall P) → count ≡ 16 → AttendsBelow wish line turns hears count now old new → AttendsBelow wish line turns hears 16 now old new
   attends_all count now old new all below = subst (λ (n : ℕ). AttendsBelow wish line turns hears n now old new) all below
 
-  pub takes_round : (now : ℕ) (old : Hall P) (turned : Turns) (noted : DeskState) (visited : P) (let_through begun : Standing) (attended : Hall P) (waited : Turns) → TakesTurn now old.stand.served (Ok tt) turned → noted ≡ old.stand.desk → turns now old.operators visited
-      → LetsThrough now (record { served = turned; desk = noted }) let_through → BeginsBelow 64 let_through begun → AttendsBelow wish line turns hears 16 now (record { stand = begun; operators = visited }) attended → waited ≡ attended.stand.served
+  pub takes_round : (now : ℕ) (old : Hall P) (turned : Turns) (noted : DeskState) (visited : P) (let_through begun : Standing) (attended : Hall P) (waited : Turns) (ends : Bool) → TakesTurn now old.stand.served (Ok tt) turned → noted ≡ old.stand.desk → turns now old.operators visited
+      → StopsAt noted.stopped now ends → ends ≡ false → LetsThrough now (record { served = turned; desk = noted }) let_through → BeginsBelow 64 let_through begun → AttendsBelow wish line turns hears 16 now (record { stand = begun; operators = visited }) attended → waited ≡ attended.stand.served
       → TakesRound wish line turns hears now old (record { stand = record { served = waited; desk = attended.stand.desk }; operators = attended.operators })
-  takes_round now old turned noted visited let_through begun attended waited turn same visits lets begins attends rests =
+  takes_round now old turned noted visited let_through begun attended waited ends turn same visits last goes_on lets begins attends rests =
       subst (λ (t : Turns). TakesRound wish line turns hears now old (record { stand = record { served = t; desk = attended.stand.desk }; operators = attended.operators })) (sym rests)
       (record {
         turned = turned;
         turn = turn;
         visited = visited;
         visits = visits;
+        goes_on = subst (λ (d : DeskState). StopsAt d.stopped now false) same (subst (λ (b : Bool). StopsAt noted.stopped now b) goes_on last);
         let_through = let_through;
         lets = subst (λ (d : DeskState). LetsThrough now (record { served = turned; desk = d }) let_through) same lets;
         begun = begun;

@@ -6,7 +6,7 @@ use Rattle.std.specs.declared.net.ipv4_addr.Ipv4Addr.{Ipv4Addr}
 use Rattle.std.specs.declared.net.ip_addr.IpAddr.TheVariants.{V4}
 use Rattle.std.specs.declared.net.socket_addr.SocketAddr.{SocketAddr}
 use Rattle.bgp_conf.specs.declared.command.Command.{Command}
-use Rattle.bgp_conf.specs.declared.command.Command.TheVariants.{AddPeer, RemovePeer, Enable, Disable, SetPolicy, DropPolicy, UseIn, UseOut, Network, NoNetwork, Reach, NoReach}
+use Rattle.bgp_conf.specs.declared.command.Command.TheVariants.{AddPeer, RemovePeer, Enable, Disable, SetPolicy, DropPolicy, UseIn, UseOut, Network, NoNetwork, Reach, NoReach, Filter, NoFilter, Assert, NoAssert}
 use Rattle.bgp_conf.specs.declared.refusal.Refusal.{Refusal}
 use Rattle.command_lines.specs.CommandWords.{Says}
 use Rattle.command_lines.specs.Words.{words_in}
@@ -32,6 +32,10 @@ added_by (Network prefix) = None
 added_by (NoNetwork prefix) = None
 added_by (Reach prefix cost) = None
 added_by (NoReach prefix) = None
+added_by (Filter prefix asn) = None
+added_by (NoFilter prefix asn) = None
+added_by (Assert prefix max_len asn) = None
+added_by (NoAssert prefix max_len asn) = None
 
 -- where the peer of a slot is: as the settings say, or at its address and BGP's port (RFC 4271 section 8.2.1)
 abbrev pub IsAt : List (ℕ × SocketAddr) → ℕ × ℕ → SocketAddr → Type 0

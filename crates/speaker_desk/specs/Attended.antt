@@ -1,5 +1,5 @@
 -- Turns with operators between them.
-use Rattle.std.specs.Prelude.{◌≡◌, ◌<◌, ◌⊎◌, ◌&&◌, ℕ, zero, suc, Bool, true, false, List, [], ◌∷◌, Option, None, Some, Result, Ok, Err, get_or, length, set}
+use Rattle.std.specs.Prelude.{◌≡◌, ◌<◌, ◌-◌, ◌⊎◌, ◌&&◌, ℕ, zero, suc, nat_le, Bool, true, false, List, [], ◌∷◌, Option, None, Some, Result, Ok, Err, get_or, length, set}
 use Rattle.bgp_conf.specs.declared.command.Command.TheVariants.{Enable}
 use Rattle.bgp_conf.specs.declared.refusal.Refusal.{Refusal}
 use Rattle.clocks.specs.Moments.{NeverGoBack, told_behind}
@@ -57,6 +57,11 @@ BeginsBelow (suc slot) old new = (mid : Standing) × BeginsBelow slot old mid ×
 abbrev pub HasStopped : Option ℕ → Type 0
 HasStopped stopped = (since : ℕ) × (stopped ≡ Some since)
 
+-- whether the program ends at a moment: so many seconds behind `stop`, it may before, and never where `stop` wasn't said
+abbrev pub StopsAt : Option ℕ → ℕ → Bool → Type 0
+StopsAt None now ends = ends ≡ false
+StopsAt (Some since) now ends = nat_le 5 (now - since) ≡ true → ends ≡ true
+
 -- a loop, a desk, and operators
 pub record Hall (P : Type 0) : Type 0 where
   pub stand : Standing
@@ -78,13 +83,14 @@ module _ {P : Type 0} (wish : P → ℕ → Wish) (line : P → ℕ → List ℕ
   AttendsBelow zero now old new = new ≡ old
   AttendsBelow (suc key) now old new = (mid : Hall P) × AttendsBelow key now old mid × AttendsWish (wish mid.operators key) key now mid new
 
-  -- a round at a moment: a turn goes well, operators are visited, peers that waited are let through where they may go, sessions begin
-  -- again whose connections are gone, and each operator is attended to
+  -- a round at a moment: a turn goes well, operators are visited, the program doesn't end, peers that waited are let through where they
+  -- may go, sessions begin again whose connections are gone, and each operator is attended to
   pub record TakesRound (now : ℕ) (old new : Hall P) : Type 0 where
     pub turned : Turns
     pub turn : TakesTurn now old.stand.served (Ok tt) turned
     pub visited : P
     pub visits : turns now old.operators visited
+    pub goes_on : StopsAt old.stand.desk.stopped now false
     pub let_through : Standing
     pub lets : LetsThrough now (record old.stand { served = turned }) let_through
     pub begun : Standing

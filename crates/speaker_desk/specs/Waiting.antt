@@ -1,7 +1,7 @@
 -- Peers that wait for payloads (own).
 use Rattle.std.specs.Prelude.{◌==◌, ◌||◌, ℕ, Bool, true, false, List, [], Option, None, Some, filter, nat_le, not}
 use Rattle.bgp_conf.specs.declared.command.Command.{Command}
-use Rattle.bgp_conf.specs.declared.command.Command.TheVariants.{AddPeer, RemovePeer, Enable, Disable, SetPolicy, DropPolicy, UseIn, UseOut, Network, NoNetwork, Reach, NoReach}
+use Rattle.bgp_conf.specs.declared.command.Command.TheVariants.{AddPeer, RemovePeer, Enable, Disable, SetPolicy, DropPolicy, UseIn, UseOut, Network, NoNetwork, Reach, NoReach, Filter, NoFilter, Assert, NoAssert}
 use Rattle.rtr_client.specs.declared.state.ClientState.{ClientState}
 use Rattle.rtr_client.specs.declared.state.ClientState.TheVariants.{Off, Opening, Asked, Wait, Loading, Synced}
 
@@ -43,6 +43,10 @@ decided_by (Network prefix) = None
 decided_by (NoNetwork prefix) = None
 decided_by (Reach prefix cost) = None
 decided_by (NoReach prefix) = None
+decided_by (Filter prefix asn) = None
+decided_by (NoFilter prefix asn) = None
+decided_by (Assert prefix max_len asn) = None
+decided_by (NoAssert prefix max_len asn) = None
 
 -- that one doesn't wait any more
 abbrev pub without : Option ℕ → Waiting → Waiting

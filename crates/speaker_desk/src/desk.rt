@@ -2,7 +2,7 @@
 ghost use Rattle.std.specs.Prelude.{◌≡◌, IfOk, None};
 ghost use Rattle.std.specs.Bool.{OnTrue};
 ghost use Rattle.speaker_desk.specs.Answering.{AnswersLine, AnswersText, ClearsSlot, Commands, IsCleared, IsObeyed, IsToldWhere, Stops, StopsBelow, settled};
-ghost use Rattle.speaker_desk.specs.Attended.{AttendsBelow, AttendsWish, BeginsBelow, BeginsIf, EnablesAll, HasStopped, IsTold, LetsThrough, may_begin};
+ghost use Rattle.speaker_desk.specs.Attended.{AttendsBelow, AttendsWish, BeginsBelow, BeginsIf, EnablesAll, HasStopped, IsTold, LetsThrough, StopsAt, may_begin};
 ghost use Rattle.speaker_desk.specs.Restarts.{is_gone, none_again};
 ghost use Rattle.speaker_turns.specs.Sessions.{transport_of};
 ghost use Rattle.speaker_turns.specs.declared.end.End.TheVariants.{Peer as PeerEnd};
@@ -205,14 +205,15 @@ impl<'a> Desk<'a> {
     }
 
     /// Whether the program has stopped: `stop` was said, and neither sessions nor operators have anything to say any more, or
-    /// so much time has passed.
+    /// so much time has passed, behind which it has.
     pub fn has_stopped<B: Book<Global>>(
         &self,
         speaker: &Speaker<Global, B>,
         is_busy: bool,
         now: u64,
     ) -> bool
-        ensures { OnTrue result (HasStopped self.now.stopped) }
+        ensures stopped { OnTrue result (HasStopped self.now.stopped) }
+        ensures ends { StopsAt self.now.stopped now result }
     {
         let Some(since) = self.stopped else {
             return false;

@@ -24,7 +24,7 @@ loop-preserved g c = (
   one_more g.P.Operators.wish g.P.Operators.line g.P.Operators.turns g.P.Operators.hears c.loop.counter c.in_ok-now.now _ _ _ _ _ _ c.loop.invariant.0 c.in_ok-now.ensures.told c.in_ok-now.ensures.forward
       (takes_round g.P.Operators.wish g.P.Operators.line g.P.Operators.turns g.P.Operators.hears c.in_ok-now.now _ c.take_turn.new.served c.note_states.new.self c.turn.new.self (record { served = c.let_through.new.served; desk = c.let_through.new.self })
       (record { served = c.begin_again.new.served; desk = c.begin_again.new.self })
-      (record { stand = record { served = c.attend.new.served; desk = c.attend.new.self }; operators = c.attend.new.operators }) c.wait.new.self c.in_ok-take_turn.ensures c.note_states.ensures c.turn.ensures c.let_through.ensures c.begin_again.ensures c.attend.ensures c.wait.ensures),
+      (record { stand = record { served = c.attend.new.served; desk = c.attend.new.self }; operators = c.attend.new.operators }) c.wait.new.self c.has_stopped.result c.in_ok-take_turn.ensures c.note_states.ensures c.turn.ensures c.has_stopped.ensures.ends c.if-has_stopped.false c.let_through.ensures c.begin_again.ensures c.attend.ensures c.wait.ensures),
   c.look.ensures.same ∙ c.loop.invariant.1,
   λ off. c.look.ensures.silent (c.loop.invariant.1 ∙ off) ∙ c.loop.invariant.2 off,
 )

@@ -12,10 +12,10 @@ returns-in_err-has_moved g c =
     c.exchange.new.self.moved
     c.args.self.now.talk
     c.exchange.new.self.talk
-    (g.S.Read.remaining c.args.self.now.stream)
-    (g.S.Read.remaining c.exchange.new.self.stream)
-    (g.S.Write.contents c.args.self.now.stream)
-    (g.S.Write.contents c.exchange.new.self.stream)
+    (g.S.Stream.remaining c.args.self.now.stream)
+    (g.S.Stream.remaining c.exchange.new.self.stream)
+    (g.S.Stream.contents c.args.self.now.stream)
+    (g.S.Stream.contents c.exchange.new.self.stream)
     c.in_err-has_moved.was
     c.from_residual.ensures
     c.exchange.ensures.exchanges
