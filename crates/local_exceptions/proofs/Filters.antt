@@ -1,18 +1,19 @@
 -- Laws of the order of filters.
-use Rattle.std.proofs.Common.{◌≡◌, ℕ, List, refl, ap, subst, ◌∙◌, arith}
+use Rattle.std.proofs.Common.{◌≡◌, ◌&&◌, ℕ, Bool, true, false, List, Option, None, Some, not, refl, sym, ap, subst, ◌∙◌, arith}
 use Rattle.std.proofs.lemmas.Bool.Decides.{nat_tests}
 use Rattle.std.specs.BTreeMap.{is_at}
 use Rattle.std.specs.Cmp.{IsTotalOrder}
 use Rattle.std.specs.List.{list_any}
 use Rattle.std.specs.List.Sorted.{IsStrictlySortedBy}
-use Rattle.std.specs.Ordering.{nat_cmp, ordering_then}
+use Rattle.std.specs.Ordering.{is_eq, nat_cmp, ordering_then}
 use Rattle.std.specs.Set.{remove_key}
 use Rattle.std.specs.declared.cmp.Ordering.{Ordering}
 use Rattle.std.specs.declared.cmp.Ordering.TheVariants.{Less, Equal, Greater}
 use Rattle.net_prefix.specs.PrefixOrder.{prefix_cmp}
 use Rattle.net_prefix.specs.declared.asn.Asn.{Asn}
 use Rattle.net_prefix.specs.declared.prefix.Prefix as declared
-use Rattle.net_prefix.proofs.PayloadSets.{prefix_cmp_exact, remove_key-filter}
+use Rattle.net_prefix.proofs.PayloadSets.{any-filter, prefix_cmp_exact, remove_key-filter}
+use Rattle.local_exceptions.specs.FilterLengths.{but_for, is_other}
 use Rattle.local_exceptions.specs.FilterOrder.{filter_cmp}
 use Rattle.local_exceptions.specs.Filters.{has_filter, out_filter}
 use Rattle.local_exceptions.specs.declared.filter.Filter.{Filter}
@@ -73,3 +74,31 @@ has_filter-own filters f = λ i. list_any (is_at (λ x. same_order f x i)) filte
 -- what the removal of a filter leaves is the filters without it
 pub remove_key-out : (filters : List Filter) (f : Filter) → IsStrictlySortedBy own.ghosts.cmp filters → remove_key (is_at (own.ghosts.cmp f)) filters ≡ out_filter f filters
 remove_key-out filters f h = (λ i. remove_key (is_at (λ x. same_order f x i)) filters) ∙ remove_key-filter filter_cmp_total f filters (subst (λ (R : Filter → Filter → Ordering). IsStrictlySortedBy R filters) same_orders h)
+
+-- the filters without one have the others
+pub has_filter-out : (filters : List Filter) (f q : Filter) → has_filter (out_filter f filters) q ≡ (not (is_at (filter_cmp f) q) && has_filter filters q)
+has_filter-out filters f q =
+    any-filter filter_cmp_total (λ member. not (is_at (filter_cmp f) member)) q
+    (λ x at. ap (λ (k : Filter). not (is_at (filter_cmp f) k)) (sym (filter_cmp_exact q x at))) filters
+
+another_case : (b h : Bool) → not b ≡ true → h ≡ (not b && h)
+another_case true h n = absurd cc
+another_case false h n = refl
+
+same_case : (b h : Bool) → not b ≡ false → false ≡ (not b && h)
+same_case true h n = refl
+same_case false h n = absurd cc
+
+-- but for a filter, another one is there as before
+pub has_another : (filters : List Filter) (but : Option Filter) (q : Filter) → is_other but q ≡ true → has_filter filters q ≡ has_filter (but_for but filters) q
+has_another filters None q other = refl
+has_another filters (Some f) q other = another_case (is_at (filter_cmp f) q) (has_filter filters q) other ∙ sym (has_filter-out filters f q)
+
+-- and it itself isn't
+pub has_same : (filters : List Filter) (but : Option Filter) (q : Filter) → is_other but q ≡ false → false ≡ has_filter (but_for but filters) q
+has_same filters None q same = absurd cc
+has_same filters (Some f) q same = same_case (is_at (filter_cmp f) q) (has_filter filters q) same ∙ sym (has_filter-out filters f q)
+
+-- which filter is another one, by the derived order
+pub other_own : (f q : Filter) → is_at (own.ghosts.cmp f) q ≡ is_at (filter_cmp f) q
+other_own f q = ap is_eq (same_order f q)

@@ -2,3 +2,4 @@ pub mod Filters
 pub mod Kept
 pub mod Matching
 pub mod Passing
+pub mod Sets

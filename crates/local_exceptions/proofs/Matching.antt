@@ -1,18 +1,19 @@
 -- Which of the filters that are kept match a payload.
-use Rattle.std.proofs.Common.{◌≡◌, ◌≤◌, ◌/◌, ◌*◌, ◌&&◌, ◌==◌, ℕ, Bool, true, false, nat_le, List, [], ◌∷◌, Some, inl, inr, refl, sym, ap, subst, ◌∙◌, arith}
+use Rattle.std.proofs.Common.{◌≡◌, ◌≤◌, ◌/◌, ◌*◌, ◌&&◌, ◌||◌, ◌==◌, ℕ, Bool, true, false, not, cond, nat_le, List, [], ◌∷◌, Option, None, Some, inl, inr, refl, sym, ap, subst, ◌∙◌, arith}
 use Rattle.std.proofs.lemmas.Bool.{and_from, and_parts, both_ways, cases_Bool, eqb-true, false_from_ne_true, or_from, or_left, or_parts, or_right}
 use Rattle.std.proofs.lemmas.Bool.Decides.{nat_tests}
 use Rattle.std.specs.BTreeMap.{is_at}
 use Rattle.std.specs.Cmp.{Equal-is, tied_itself}
+use Rattle.std.specs.List.{list_any}
 use Rattle.net_prefix.specs.Cover.{block_size, masked_bits}
 use Rattle.net_prefix.specs.declared.asn.Asn.{Asn}
 use Rattle.net_prefix.specs.declared.payload.Vrp.{Vrp}
 use Rattle.net_prefix.specs.declared.prefix.Prefix as declared
 use Rattle.net_prefix.proofs.Blocks.{block_pos, divided, whole}
 use Rattle.net_prefix.proofs.Prefixes.{same_prefix}
-use Rattle.local_exceptions.specs.FilterLengths.{NoneMatches}
+use Rattle.local_exceptions.specs.FilterLengths.{NoneMatches, but_for, matches_but}
 use Rattle.local_exceptions.specs.FilterOrder.{filter_cmp}
-use Rattle.local_exceptions.specs.Filters.{covers, has_filter, is_filtered, matches}
+use Rattle.local_exceptions.specs.Filters.{covers, has_filter, is_filtered, matches, out_filter}
 use Rattle.local_exceptions.specs.declared.filter.Filter.{Filter}
 use Rattle.local_exceptions.specs.declared.filter.Filter.TheVariants.{Prefix, As, Both}
 use Rattle.local_exceptions.proofs.Filters.{filter_cmp_exact, filter_cmp_total}
@@ -56,7 +57,7 @@ masked_covers p q len bits is le =
     test_from p.len q.len (p.bits / block_size p.len) (q.bits / block_size p.len) (omega arith) same
 
 -- and it is the only one of this length
-covering_one : (p q r : declared.Prefix) → covers p r ≡ true → covers q r ≡ true → p.len ≡ q.len → p ≡ q
+pub covering_one : (p q r : declared.Prefix) → covers p r ≡ true → covers q r ≡ true → p.len ≡ q.len → p ≡ q
 covering_one p q r hp hq len =
     let at_p = test_to p.len r.len (p.bits / block_size p.len) (r.bits / block_size p.len) hp in
     let at_q = test_to q.len r.len (q.bits / block_size q.len) (r.bits / block_size q.len) hq in
@@ -114,3 +115,14 @@ has_own filters payload h = has_matching filters (As payload.asn) payload h (sam
 
 pub same_answer : (a b : Bool) → (a ≡ true → b ≡ true) → (a ≡ false → b ≡ false) → a ≡ b
 same_answer a b so not_so = elim (cases_Bool a) [ inl h ↦ h ∙ sym (so h) | inr h ↦ h ∙ sym (not_so h) ]
+
+kept_case : (b m rest : Bool) (v : Vrp) (f : Filter) (left : List Filter) → matches f v ≡ m → rest ≡ is_filtered left v → ((not b && m) || rest) ≡ is_filtered (cond (not b) (f ∷ left) left) v
+kept_case true m rest v f left is more = more
+kept_case false m rest v f left is more = rw (sym is, more) refl
+
+-- those of the filters but for one that match
+pub any_other : (filters : List Filter) (but : Option Filter) (v : Vrp) → list_any (matches_but but v) filters ≡ is_filtered (but_for but filters) v
+any_other filters None v = refl
+any_other [] (Some but) v = refl
+any_other (f ∷ filters) (Some but) v =
+    kept_case (is_at (filter_cmp but) f) (matches f v) (list_any (matches_but (Some but) v) filters) v f (out_filter but filters) refl (any_other filters (Some but) v)

@@ -3,7 +3,8 @@ use Rattle.std.specs.Prelude.{◌≡◌, ◌&&◌, ◌||◌, Bool, List, [], fil
 use Rattle.net_prefix.specs.PayloadSets.{has, out, put}
 use Rattle.net_prefix.specs.declared.payload.Vrp.{Vrp}
 use Rattle.vrp_delta.specs.Delta.{Change}
-use Rattle.local_exceptions.specs.Filters.{is_filtered, out_filter, put_filter}
+use Rattle.vrp_delta.specs.Staged.{with_all}
+use Rattle.local_exceptions.specs.Filters.{is_filtered, matches, out_filter, put_filter}
 use Rattle.local_exceptions.specs.declared.filter.Filter.{Filter}
 
 -- the filters and the asserted payloads, the least first
@@ -33,6 +34,14 @@ abbrev pub IsUnder : ExceptionSets → List Vrp → List Vrp → Type 0
 IsUnder e set after =
     (payload : Vrp) → has after payload ≡ ((has set payload && not (is_filtered e.filters payload)) || has e.asserted payload)
 
+-- a set with each of these payloads
+abbrev pub put_each : List Vrp → List Vrp → List Vrp
+put_each payloads set = with_all payloads set
+
+-- what the exceptions make of a set, as a set
+abbrev pub under : ExceptionSets → List Vrp → List Vrp
+under e set = put_each e.asserted (filter (λ payload. not (is_filtered e.filters payload)) set)
+
 -- whether the exceptions say nothing of the payload
 abbrev pub is_untouched : ExceptionSets → Vrp → Bool
 is_untouched e payload = not (is_filtered e.filters payload) && not (has e.asserted payload)
@@ -40,3 +49,7 @@ is_untouched e payload = not (is_filtered e.filters payload) && not (has e.asser
 -- what they make of a change: of a payload of which they say something nothing is changed
 abbrev pub behind : ExceptionSets → Change → Change
 behind e change = record { withdrawn = filter (is_untouched e) change.withdrawn; announced = filter (is_untouched e) change.announced }
+
+-- whether the filter alone decides on the payload: it matches it, and the other exceptions say nothing of it
+abbrev pub is_turned : ExceptionSets → Filter → Vrp → Bool
+is_turned e f payload = matches f payload && is_untouched (without_filter f e) payload

@@ -1,10 +1,11 @@
 //! The exceptions of an operator, and what they make of a set of payloads and of its changes.
-ghost use Rattle.std.specs.Prelude.{◌≡◌, ◌≤◌, ◌||◌, ℕ, true, false, Ok, Err, IfErr, IfOk, OnErr, OnOk, filter, if◌then◌else◌, is_ok, length};
+ghost use Rattle.std.specs.Prelude.{◌≡◌, ◌≤◌, ◌&&◌, ◌||◌, ◌↔◌, ℕ, IsTrue, Option, Some, None, true, false, Ok, Err, IfErr, IfOk, OnErr, OnOk, filter, if◌then◌else◌, is_ok, length, not};
+ghost use Rattle.std.specs.List.{list_any};
 ghost use Rattle.net_prefix.specs.declared.payload.Vrp.{Vrp};
 ghost use Rattle.net_prefix.specs.PayloadSets.{IsPayloadSet, has};
-ghost use Rattle.local_exceptions.specs.ExceptionSets.{IsUnder, behind, is_untouched, no_exceptions, with_assertion, with_filter, without_assertion, without_filter};
+ghost use Rattle.local_exceptions.specs.ExceptionSets.{IsUnder, behind, is_turned, is_untouched, no_exceptions, with_assertion, with_filter, without_assertion, without_filter};
 ghost use Rattle.local_exceptions.specs.ExceptionFaults.{IsFault, adding_fault, taking_fault};
-ghost use Rattle.local_exceptions.specs.FilterLengths.{NoneMatches};
+ghost use Rattle.local_exceptions.specs.FilterLengths.{NoneMatches, but_for, is_other, matches_but};
 ghost use Rattle.local_exceptions.specs.Filters.{covers, has_filter, is_filtered};
 
 use crate::fault::ExceptionFault;
@@ -19,6 +20,8 @@ use vrp_delta::Delta;
 pub const MAX_FILTERS: usize = 4096;
 /// The most assertions.
 pub const MAX_ASSERTIONS: usize = 4096;
+// Up to so many filters are gone over, which is quicker than looking up each that may match.
+const FEW_FILTERS: usize = 16;
 
 /// The filters and assertions of an operator.
 #[derive(Drop)]
@@ -127,27 +130,66 @@ impl<A: Allocator> Exceptions<A> {
         &self.asserted
     }
 
-    // Whether the filter is there.
-    fn has_filter(&self, filter: &Filter) -> bool
+    /// Whether there are no exceptions.
+    pub fn is_empty(&self) -> bool
+        ensures { IsTrue result ↔ (self.now ≡ no_exceptions) }
+    {
+        self.filters.is_empty() && self.asserted.is_empty()
+    }
+
+    /// Whether the filter is there.
+    pub fn has_filter(&self, filter: &Filter) -> bool
         ensures { result ≡ has_filter self.now.filters filter.now }
     {
         self.filters.contains(filter)
+    }
+
+    /// Whether the assertion is there.
+    pub fn has_assertion(&self, payload: &Vrp) -> bool
+        ensures { result ≡ has self.now.asserted payload.now }
+    {
+        self.asserted.contains(payload)
     }
 
     /// Whether a filter matches the payload.
     pub fn is_filtered(&self, payload: &Vrp) -> bool
         ensures { result ≡ is_filtered self.now.filters payload.now }
     {
-        self.has_filter(&Filter::As(payload.asn)) || self.filters_prefix_of(payload)
+        self.is_filtered_but(payload, None)
+    }
+
+    // Whether a filter matches the payload, but for this one.
+    fn is_filtered_but(&self, payload: &Vrp, but: Option<Filter>) -> bool
+        ensures { result ≡ is_filtered (but_for but self.now.filters) payload.now }
+    {
+        if self.filters.len() <= FEW_FILTERS {
+            any_matches(&self.filters, payload, but)
+        } else {
+            self.has_matching(payload, but)
+        }
+    }
+
+    // The same, by looking up the filters that match.
+    fn has_matching(&self, payload: &Vrp, but: Option<Filter>) -> bool
+        ensures { result ≡ is_filtered (but_for but self.now.filters) payload.now }
+    {
+        self.has_filter_but(&Filter::As(payload.asn), but) || self.filters_prefix_of(payload, but)
+    }
+
+    // Whether the filter is there, but for this one.
+    fn has_filter_but(&self, filter: &Filter, but: Option<Filter>) -> bool
+        ensures { result ≡ has_filter (but_for but self.now.filters) filter.now }
+    {
+        is_other(filter, but) && self.has_filter(filter)
     }
 
     // Whether a filter with a prefix matches the payload: it is of one of the at most 33 that cover the payload's.
-    fn filters_prefix_of(&self, payload: &Vrp) -> bool
-        ensures yes { result ≡ true → is_filtered self.now.filters payload.now ≡ true }
-        ensures no { result ≡ false → (len : ℕ) → len ≤ payload.now.prefix.len → NoneMatches self.now.filters payload.now len }
+    fn filters_prefix_of(&self, payload: &Vrp, but: Option<Filter>) -> bool
+        ensures yes { result ≡ true → is_filtered (but_for but self.now.filters) payload.now ≡ true }
+        ensures no { result ≡ false → (len : ℕ) → len ≤ payload.now.prefix.len → NoneMatches (but_for but self.now.filters) payload.now len }
     {
         for len in 0..payload.prefix.len + 1 {
-            if self.filters_length(payload, len) {
+            if self.filters_length(payload, len, but) {
                 return true;
             }
         }
@@ -155,32 +197,49 @@ impl<A: Allocator> Exceptions<A> {
     }
 
     // Whether a filter matches the payload whose prefix has this length.
-    fn filters_length(&self, payload: &Vrp, len: u8) -> bool
+    fn filters_length(&self, payload: &Vrp, len: u8, but: Option<Filter>) -> bool
         requires { len ≤ payload.now.prefix.len }
-        ensures yes { result ≡ true → is_filtered self.now.filters payload.now ≡ true }
-        ensures no { result ≡ false → NoneMatches self.now.filters payload.now len }
+        ensures yes { result ≡ true → is_filtered (but_for but self.now.filters) payload.now ≡ true }
+        ensures no { result ≡ false → NoneMatches (but_for but self.now.filters) payload.now len }
     {
         match Prefix::masked(payload.prefix.bits, len) {
-            Ok(prefix) => self.filters_covering(payload, prefix),
+            Ok(prefix) => self.filters_covering(payload, prefix, but),
             Err(_) => false,
         }
     }
 
     // Whether a filter with just this prefix, which covers the payload's, matches the payload.
-    fn filters_covering(&self, payload: &Vrp, prefix: Prefix) -> bool
+    fn filters_covering(&self, payload: &Vrp, prefix: Prefix, but: Option<Filter>) -> bool
         requires { covers prefix payload.now.prefix ≡ true }
-        ensures yes { result ≡ true → is_filtered self.now.filters payload.now ≡ true }
-        ensures no { result ≡ false → NoneMatches self.now.filters payload.now prefix.len }
+        ensures yes { result ≡ true → is_filtered (but_for but self.now.filters) payload.now ≡ true }
+        ensures no { result ≡ false → NoneMatches (but_for but self.now.filters) payload.now prefix.len }
     {
-        self.has_filter(&Filter::Prefix(prefix))
-            || self.has_filter(&Filter::Both(prefix, payload.asn))
+        self.has_filter_but(&Filter::Prefix(prefix), but)
+            || self.has_filter_but(&Filter::Both(prefix, payload.asn), but)
     }
 
-    // Whether no exception says anything of the payload.
-    fn is_untouched(&self, payload: &Vrp) -> bool
+    /// Whether no exception says anything of the payload.
+    pub fn is_untouched(&self, payload: &Vrp) -> bool
         ensures { result ≡ is_untouched self.now payload.now }
     {
-        !self.is_filtered(payload) && !self.asserted.contains(payload)
+        !self.is_filtered(payload) && !self.has_assertion(payload)
+    }
+
+    /// Whether the filter, if it is there or not, alone decides on the payload: it matches it, and no other exception says
+    /// anything of it.
+    pub fn is_turned(&self, filter: &Filter, payload: &Vrp) -> bool
+        ensures { result ≡ is_turned self.now filter.now payload.now }
+    {
+        filter.matches(payload)
+            && !self.is_filtered_but(payload, Some(*filter))
+            && !self.has_assertion(payload)
+    }
+
+    /// Whether the payload is in force: it is in the set (`is_loaded`) and not filtered, or asserted.
+    pub fn is_in_force(&self, payload: &Vrp, is_loaded: bool) -> bool
+        ensures { result ≡ ((is_loaded && not (is_filtered self.now.filters payload.now)) || has self.now.asserted payload.now) }
+    {
+        (is_loaded && !self.is_filtered(payload)) || self.has_assertion(payload)
     }
 
     // The payloads of a set of which no exception says anything.
@@ -230,6 +289,36 @@ impl<A: Allocator> Exceptions<A> {
             announced,
         })
     }
+}
+
+// Whether the filter is another one than this.
+fn is_other(filter: &Filter, but: Option<Filter>) -> bool
+    ensures { result ≡ is_other but filter.now }
+{
+    match but {
+        Some(but) => but != *filter,
+        None => true,
+    }
+}
+
+// Whether the filter is another one than this, and matches the payload.
+fn matches_but(filter: &Filter, payload: &Vrp, but: Option<Filter>) -> bool
+    ensures { result ≡ matches_but but payload.now filter.now }
+{
+    is_other(filter, but) && filter.matches(payload)
+}
+
+// Whether a filter other than this one matches the payload, by going over all filters.
+fn any_matches<A: Allocator>(
+    filters: &BTreeSet<Filter, A>,
+    payload: &Vrp,
+    but: Option<Filter>,
+) -> bool
+    ensures { result ≡ list_any (matches_but but payload.now) filters.now.keys }
+{
+    filters
+        .iter()
+        .any(|filter| matches_but(filter, payload, but))
 }
 
 // Puts payloads into a set.

@@ -15,4 +15,4 @@ mod laws;
 pub use exceptions::{Exceptions, MAX_ASSERTIONS, MAX_FILTERS};
 pub use fault::ExceptionFault;
 pub use filter::{Filter, filters_are_ordered};
-pub use laws::{changes_pass_exceptions, exceptions_mean_one_set};
+pub use laws::{changes_pass_exceptions, exceptions_make_a_set, exceptions_mean_one_set};

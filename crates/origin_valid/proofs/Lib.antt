@@ -2,8 +2,12 @@ pub mod Kept
 pub mod PrefixSets
 pub mod SetWalks
 pub mod States
+pub mod StatesUnder
 pub mod Members
 pub mod CoverFacts
 pub mod Outsides
 pub mod StateLaws
 pub mod StretchLaws
+pub mod FilterChanges
+pub mod Touches
+pub mod Ranges

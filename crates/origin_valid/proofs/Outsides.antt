@@ -1,5 +1,5 @@
 -- The prefixes outside those that come before them are the stretches.
-use Rattle.std.proofs.Common.{◌≡◌, ◌≤◌, ◌<◌, ◌&&◌, ◌||◌, ◌++◌, Bool, true, false, not, cond, List, [], ◌∷◌, Option, None, Some, inl, inr, refl, sym, ap, subst, ◌∙◌, arith}
+use Rattle.std.proofs.Common.{◌≡◌, ◌≤◌, ◌<◌, ◌&&◌, ◌||◌, ◌++◌, Bool, true, false, not, cond, List, [], ◌∷◌, Option, None, Some, filter, inl, inr, refl, sym, ap, subst, ◌∙◌, arith}
 use Rattle.std.proofs.lemmas.Bool.{cases_order}
 use Rattle.std.proofs.lemmas.List.Folds.{list_any-append}
 use Rattle.std.proofs.lemmas.Map.Lookups.{btree_set_from_contains}
@@ -16,9 +16,10 @@ use Rattle.net_prefix.specs.declared.payload.Vrp.{Vrp}
 use Rattle.net_prefix.specs.declared.prefix.Prefix.{Prefix}
 use Rattle.net_prefix.proofs.PayloadSets.{any-filter, any-insert_key, payload_cmp_exact, payload_cmp_total, prefix_cmp_exact, prefix_cmp_total, sorted-filter, sorted-insert_key}
 use Rattle.net_prefix.proofs.Ranks.{cmp_below, less_rank, rank}
+use Rattle.local_exceptions.proofs.Passing.{has-filter}
 use Rattle.prefix_trie.specs.CoverWalks.{covers}
 use Rattle.prefix_trie.proofs.MapLaws.{is_at-refl, one_prefix}
-use Rattle.origin_valid.specs.Stretches.{changed_prefixes, covers_other, in_order, prefixes_of, stretches}
+use Rattle.origin_valid.specs.Stretches.{covers_other, in_order, prefixes_of, stretches}
 use Rattle.origin_valid.specs.StretchWalks.{is_inside, outside}
 use Rattle.origin_valid.proofs.CoverFacts.{apart-turned, covers-between, covers-further, covers-itself, other_below, other_covers, same_rank}
 use Rattle.origin_valid.proofs.Members.{any-map, any-same}
@@ -33,7 +34,7 @@ abbrev pub is_covered : List Prefix → Prefix → Bool
 is_covered ps q = list_any (λ p. covers_other p q) ps
 
 -- a prefix stands below no other, or is one of them
-abbrev IsLow : Prefix → List Prefix → Type 0
+abbrev pub IsLow : Prefix → List Prefix → Type 0
 IsLow p ps = AllByRecursion (λ q. rank p ≤ rank q) ps
 
 -- prefixes rise, and some may stand there several times
@@ -233,12 +234,33 @@ unfolding IsStrictlySortedBy
 rise-prefixes_of [] h = tt
 rise-prefixes_of (p ∷ set) h = (low_payloads p set h.0, rise-prefixes_of set h.1)
 
--- the walk over all payloads of a change gives its stretches
-pub outside-change : (set : List Vrp) (change : Change) → IsPayloadSet set → ((q : Vrp) → has set q ≡ (has change.withdrawn q || has change.announced q))
-    → outside None (prefixes_of set) ≡ stretches (changed_prefixes change)
-outside-change set change rising is =
-    outside-stretches (prefixes_of set) (changed_prefixes change) (rise-prefixes_of set rising) (λ q.
+-- the walk over payloads gives the stretches of a list that has the same ones
+pub outside-list : (set list : List Vrp) → IsPayloadSet set → ((q : Vrp) → has set q ≡ has list q) → outside None (prefixes_of set) ≡ stretches (prefixes_of list)
+outside-list set list rising is =
+    outside-stretches (prefixes_of set) (prefixes_of list) (rise-prefixes_of set rising) (λ q.
     any-map (λ (v : Vrp). v.prefix) (is_at (prefix_cmp q)) set
-    ∙ any-same payload_cmp_total payload_cmp_exact (λ (v : Vrp). is_at (prefix_cmp q) v.prefix) set (change.withdrawn ++ change.announced)
-    (λ v _. is v ∙ sym (list_any-append (is_at (payload_cmp v)) change.withdrawn change.announced))
-    ∙ sym (any-map (λ (v : Vrp). v.prefix) (is_at (prefix_cmp q)) (change.withdrawn ++ change.announced)))
+    ∙ any-same payload_cmp_total payload_cmp_exact (λ (v : Vrp). is_at (prefix_cmp q) v.prefix) set list (λ v _. is v)
+    ∙ sym (any-map (λ (v : Vrp). v.prefix) (is_at (prefix_cmp q)) list))
+
+parts : (t w a : Bool) → (t && (w || a)) ≡ ((t && w) || (t && a))
+parts true w a = refl
+parts false w a = refl
+
+-- the walk over those payloads of a change that pass a test gives their stretches
+pub outside-change : (test : Vrp → Bool) (set : List Vrp) (change : Change) → IsPayloadSet set → ((q : Vrp) → has set q ≡ (has change.withdrawn q || has change.announced q))
+    → outside None (prefixes_of (filter test set)) ≡ stretches (prefixes_of (filter test change.withdrawn ++ filter test change.announced))
+outside-change test set change rising is =
+    outside-list (filter test set) (filter test change.withdrawn ++ filter test change.announced) (sorted-filter payload_cmp_total test set rising) (λ q.
+    has-filter test set q ∙ ap (λ b. test q && b) (is q) ∙ parts (test q) (has change.withdrawn q) (has change.announced q)
+    ∙ rw (list_any-append (is_at (payload_cmp q)) (filter test change.withdrawn) (filter test change.announced), has-filter test change.withdrawn q, has-filter test change.announced q) refl)
+
+twice : (h : Bool) → (h || h) ≡ h
+twice true = refl
+twice false = refl
+
+-- and so does that over those of a set, each of which is there twice
+pub outside-set : (test : Vrp → Bool) (us set : List Vrp) → IsPayloadSet us → ((q : Vrp) → has us q ≡ (has set q || has set q))
+    → outside None (prefixes_of (filter test us)) ≡ stretches (prefixes_of (filter test set))
+outside-set test us set rising is =
+    outside-list (filter test us) (filter test set) (sorted-filter payload_cmp_total test us rising) (λ q.
+    has-filter test us q ∙ ap (λ b. test q && b) (is q ∙ twice (has set q)) ∙ sym (has-filter test set q))

@@ -26,13 +26,13 @@ module _ (prefix : Prefix) (origin : Option Asn) where
   abbrev Own : Prefix → List Vrp → Type 0
   Own p set = AllByRecursion (λ v. v.prefix ≡ p) set
 
-  covered_none : (p : Prefix) (set : List Vrp) → Own p set → covers p prefix ≡ false → covered set ≡ false
+  pub covered_none : (p : Prefix) (set : List Vrp) → Own p set → covers p prefix ≡ false → covered set ≡ false
   covered_none p [] own h = refl
   covered_none p (v ∷ set) own h =
       let first : covers v.prefix prefix ≡ false = subst (λ (k : Prefix). covers k prefix ≡ false) (sym own.0) h in
       rw first (covered_none p set own.1 h)
 
-  matched_none : (p : Prefix) (set : List Vrp) → Own p set → covers p prefix ≡ false → matched set ≡ false
+  pub matched_none : (p : Prefix) (set : List Vrp) → Own p set → covers p prefix ≡ false → matched set ≡ false
   matched_none p [] own h = refl
   matched_none p (v ∷ set) own h =
       let first : covers v.prefix prefix ≡ false = subst (λ (k : Prefix). covers k prefix ≡ false) (sym own.0) h in

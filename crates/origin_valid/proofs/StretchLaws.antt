@@ -95,7 +95,7 @@ IsIn change q = (s : Prefix) × Contains (stretches (changed_prefixes change)) s
 abbrev pub IsChanged : Change → Prefix → Type 0
 IsChanged change q = (payload : Vrp) × (Contains change.withdrawn payload ⊎ Contains change.announced payload) × CoversRoute payload q
 
-over_payloads : (set : List Vrp) (q : Prefix) → is_over (prefixes_of set) q ≡ list_any (covers_route q) set
+pub over_payloads : (set : List Vrp) (q : Prefix) → is_over (prefixes_of set) q ≡ list_any (covers_route q) set
 over_payloads set q = any-map (λ (v : Vrp). v.prefix) (λ p. covers p q) set
 
 pub over_change : (change : Change) (q : Prefix) → is_over (stretches (changed_prefixes change)) q ≡ list_any (covers_route q) (change.withdrawn ++ change.announced)

@@ -8,10 +8,15 @@
 //! `affected` names the prefixes of a change that no other one of them covers, in rising order: a prefix whose state
 //! may have changed lies in just one of these stretches, and any other prefix keeps its state. There are no IPv6
 //! payloads.
+//!
+//! Local exceptions (RFC 8416) lie between the payloads that are kept and the states: `state_under` judges by what they
+//! make of the payloads, `affected` leaves out the payloads of which they say something, and `affected_by` names the
+//! stretches of a filter that comes or goes.
 #![tactic(auto)]
 
 mod payload_trie;
 mod prefix_payloads;
+mod states_under;
 mod stretch_laws;
 mod stretches;
 mod validity;
@@ -21,6 +26,6 @@ pub use payload_trie::PayloadTrie;
 pub use stretch_laws::{
     changed_states_lie_in_stretches, stretches_are_disjoint, stretches_are_what_changes_cover,
 };
-pub use stretches::{Stretches, affected};
+pub use stretches::{Stretches, affected, affected_by};
 pub use validity::Validity;
 pub use validity_laws::{as_0_and_none_match_nothing, states_are_by_payloads};

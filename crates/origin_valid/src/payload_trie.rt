@@ -1,12 +1,16 @@
 //! The payloads by prefix.
-ghost use Rattle.std.specs.Prelude.{◌≡◌, ◌≢◌, ◌||◌, ◌&&◌, [], false, not, OnOk, OnErr};
+ghost use Rattle.std.specs.Prelude.{◌≡◌, ◌≢◌, ◌||◌, ◌&&◌, [], false, filter, not, OnOk, OnErr};
+ghost use Rattle.local_exceptions.specs.ExceptionSets.{under};
 ghost use Rattle.net_prefix.specs.PayloadSets.{IsPayloadSet, has, out, put};
 ghost use Rattle.net_prefix.specs.declared.payload.Vrp.{Vrp as Payload};
 ghost use Rattle.origin_valid.specs.KeptPayloads.{IsNextPayloads};
+ghost use Rattle.origin_valid.specs.StatesUnder.{is_kept};
 ghost use Rattle.origin_valid.specs.Validity.{validity};
 
 use crate::prefix_payloads::PrefixPayloads;
-use crate::validity::Validity;
+use crate::states_under::asserted_state;
+use crate::validity::{Validity, both};
+use local_exceptions::Exceptions;
 use net_prefix::{Asn, Prefix, Vrp};
 use prefix_trie::{Covering, Trie};
 use std::alloc::{AllocError, Allocator, Global};
@@ -57,6 +61,43 @@ impl<A: Allocator> PayloadTrie<A> {
                 return Validity::Valid;
             }
             state = Validity::Invalid;
+        }
+        state
+    }
+
+    /// The state of a route's origin by what the exceptions make of the payloads (RFC 8416 section 3). It takes no memory.
+    /// Where there are no exceptions it does what `state` does; else it looks each payload that covers the prefix up among
+    /// the filters, and each of the at most 33 prefixes that cover it among the assertions.
+    pub fn state_under<B: Allocator>(
+        &self,
+        exceptions: &Exceptions<B>,
+        prefix: &Prefix,
+        origin: Option<Asn>,
+    ) -> Validity
+        ensures { result ≡ validity (under exceptions.now self.now) prefix.now origin }
+    {
+        if exceptions.is_empty() {
+            return self.state(prefix, origin);
+        }
+        both(
+            self.kept_state(exceptions, prefix, origin),
+            asserted_state(exceptions.assertions(), prefix, origin),
+        )
+    }
+
+    // The state by the payloads that no filter matches.
+    fn kept_state<B: Allocator>(
+        &self,
+        exceptions: &Exceptions<B>,
+        prefix: &Prefix,
+        origin: Option<Asn>,
+    ) -> Validity
+        ensures { result ≡ validity (filter (is_kept exceptions.now) self.now) prefix.now origin }
+    {
+        let mut covering = self.prefixes.covering(prefix);
+        let mut state = Validity::NotFound;
+        while let Some(payloads) = next_payloads(&mut covering) {
+            state = both(state, payloads.kept_state(exceptions, prefix, origin));
         }
         state
     }

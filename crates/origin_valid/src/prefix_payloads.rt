@@ -1,11 +1,14 @@
 //! The payloads of one prefix.
-ghost use Rattle.std.specs.Prelude.{◌≡◌, [], ◌∷◌};
+ghost use Rattle.std.specs.Prelude.{◌≡◌, [], ◌∷◌, filter};
 ghost use Rattle.std.specs.List.{list_any};
 ghost use Rattle.net_prefix.specs.PayloadSets.{has};
 ghost use Rattle.origin_valid.specs.KeptPayloads.{IsLeft, MayPut, is_only};
-ghost use Rattle.origin_valid.specs.Validity.{matches};
+ghost use Rattle.origin_valid.specs.StatesUnder.{is_kept};
+ghost use Rattle.origin_valid.specs.Validity.{matches, validity};
 
-use crate::validity::matches;
+use crate::states_under::{kept_by, kept_state};
+use crate::validity::{Validity, both, matches};
+use local_exceptions::Exceptions;
 use net_prefix::{Asn, Prefix, Vrp};
 use prefix_trie::Marked;
 use std::alloc::{Allocator, Global};
@@ -64,6 +67,21 @@ impl<A: Allocator> PrefixPayloads<A> {
         ensures { result ≡ list_any (matches prefix.now origin) self.now }
     {
         matches(&self.first, prefix, origin) || any_matches(&self.others, prefix, origin)
+    }
+
+    /// The state by those of them that no filter matches.
+    pub(crate) fn kept_state<B: Allocator>(
+        &self,
+        exceptions: &Exceptions<B>,
+        prefix: &Prefix,
+        origin: Option<Asn>,
+    ) -> Validity
+        ensures { result ≡ validity (filter (is_kept exceptions.now) self.now) prefix.now origin }
+    {
+        both(
+            kept_by(&self.first, exceptions, prefix, origin),
+            kept_state(&self.others, exceptions, prefix, origin),
+        )
     }
 
     /// Takes out the payload, where there is another one. It takes no memory.

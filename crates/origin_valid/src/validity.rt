@@ -1,6 +1,7 @@
 //! The states of a route's origin.
-ghost use Rattle.std.specs.Prelude.{◌≡◌, Some};
-ghost use Rattle.origin_valid.specs.Validity.{matches};
+ghost use Rattle.std.specs.Prelude.{◌≡◌, Some, [], ◌∷◌};
+ghost use Rattle.origin_valid.specs.Validity.{matches, validity};
+ghost use Rattle.origin_valid.specs.StatesUnder.{both};
 ghost use Rattle.origin_valid.specs.ValidityNames.{name_of};
 
 use net_prefix::{Asn, Prefix, Vrp};
@@ -41,4 +42,32 @@ pub(crate) fn matches(payload: &Vrp, prefix: &Prefix, origin: Option<Asn>) -> bo
         && prefix.len <= payload.max_len
         && payload.asn != NO_AS
         && origin == Some(payload.asn)
+}
+
+/// The state by one payload.
+pub(crate) fn state_by(payload: &Vrp, prefix: &Prefix, origin: Option<Asn>) -> Validity
+    ensures { result ≡ validity (payload.now ∷ []) prefix.now origin }
+{
+    if matches(payload, prefix, origin) {
+        Validity::Valid
+    } else if payload.prefix.covers(prefix) {
+        Validity::Invalid
+    } else {
+        Validity::NotFound
+    }
+}
+
+/// The state by the payloads of two sets, from the state by each.
+pub(crate) fn both(one: Validity, other: Validity) -> Validity
+    ensures { result ≡ both one other }
+{
+    match one {
+        Validity::Valid => Validity::Valid,
+        Validity::Invalid => match other {
+            Validity::Valid => Validity::Valid,
+            Validity::Invalid => Validity::Invalid,
+            Validity::NotFound => Validity::Invalid,
+        },
+        Validity::NotFound => other,
+    }
 }

@@ -1,6 +1,6 @@
 //! Tests alone, of prefixes, payload lists, payload versions and PDUs: what no answer of a script shows, lists in either
-//! format whose device fails, a trie, the prefixes that a change of payloads concerns, and each growth refused in turn. A file
-//! is named for what it tests.
+//! format whose device fails, a trie, the prefixes that a change of payloads concerns, what exceptions make of that and of states,
+//! and each growth refused in turn. A file is named for what it tests.
 //!
 //! They stand above the crates that they test, so that those are proved once. Octets, rows of tables, loads, lists and the
 //! states of routes are scripts of the crate play_scripts.
@@ -8,6 +8,8 @@
 
 #[cfg(test)]
 mod clients;
+#[cfg(test)]
+mod exceptions;
 #[cfg(test)]
 mod formats;
 #[cfg(test)]

@@ -2,9 +2,11 @@
 //! stay as they were where a growth is refused. The states of more routes are in scripts.
 ghost use Rattle.std.specs.Prelude.{◌≡◌, [], OnOk, OnErr};
 
+use crate::exceptions::no_exceptions;
 use crate::sets::{ample_set, requests_of};
+use local_exceptions::Exceptions;
 use net_prefix::{Asn, Prefix, Vrp};
-use origin_valid::{PayloadTrie, Validity, affected};
+use origin_valid::{PayloadTrie, Stretches, Validity, affected};
 use refusing::Refusing;
 use std::alloc::{AllocError, Allocator, Global};
 use std::collections::BTreeSet;
@@ -12,7 +14,7 @@ use std::process::Abort;
 use vrp_delta::{Delta, Keeper};
 
 #[rattlefmt::skip]
-const PAYLOADS: [Vrp; 5] = [
+pub const PAYLOADS: [Vrp; 5] = [
     Vrp { prefix: Prefix { bits: 0x0a00_0000, len: 16 }, max_len: 16, asn: Asn(65002) },
     Vrp { prefix: Prefix { bits: 0x0a00_0000, len: 16 }, max_len: 24, asn: Asn(65001) },
     Vrp { prefix: Prefix { bits: 0x0a00_0100, len: 24 }, max_len: 24, asn: Asn(65003) },
@@ -23,7 +25,7 @@ const PAYLOADS: [Vrp; 5] = [
 // Those that are there behind a change: among them one with another maximum length, one with another AS, and one that
 // covers all of 10.0.0.0/16.
 #[rattlefmt::skip]
-const LATER: [Vrp; 6] = [
+pub const LATER: [Vrp; 6] = [
     Vrp { prefix: Prefix { bits: 0x0a00_0000, len: 8 },  max_len: 8,  asn: Asn(65004) },
     Vrp { prefix: Prefix { bits: 0x0a00_0000, len: 16 }, max_len: 16, asn: Asn(65001) },
     Vrp { prefix: Prefix { bits: 0x0a00_0000, len: 16 }, max_len: 16, asn: Asn(65002) },
@@ -43,8 +45,8 @@ const STRETCHES: [Prefix; 2] = [
 // or two part, and one for the second payload of a prefix.
 const REQUESTS: u64 = 9;
 
-// Makes the change from one set to another.
-fn follow<A: Allocator + Clone>(
+/// Makes the change from one set to another.
+pub fn follow<A: Allocator + Clone>(
     trie: &mut PayloadTrie<A>,
     old: &BTreeSet<Vrp>,
     new: &BTreeSet<Vrp>,
@@ -122,9 +124,13 @@ fn payloads_that_were_cleared_are_filled_again(rt: HostRuntime) {
     assert!(rt; is_filled_again(&mut trie, &none, &all));
 }
 
-// Whether the change concerns just these.
-fn concerns(delta: &Delta, stretches: &[Prefix]) -> bool {
-    let mut concerned = affected(delta);
+/// Whether the change concerns just these, behind the exceptions.
+pub fn concerns(delta: &Delta, exceptions: &Exceptions, stretches: &[Prefix]) -> bool {
+    are_just(affected(delta, exceptions), stretches)
+}
+
+/// Whether the stretches are just these.
+pub fn are_just(mut concerned: Stretches, stretches: &[Prefix]) -> bool {
     for stretch in stretches {
         if concerned.next() != Some(*stretch) {
             return false;
@@ -134,9 +140,9 @@ fn concerns(delta: &Delta, stretches: &[Prefix]) -> bool {
 }
 
 // Whether the change between the two sets does.
-fn concerns_stretches(all: &BTreeSet<Vrp>, later: &BTreeSet<Vrp>) -> bool {
+fn concerns_stretches(none: &Exceptions, all: &BTreeSet<Vrp>, later: &BTreeSet<Vrp>) -> bool {
     match Delta::between(all, later) {
-        Ok(delta) => concerns(&delta, &STRETCHES),
+        Ok(delta) => concerns(&delta, none, &STRETCHES),
         Err(_) => false,
     }
 }
@@ -145,7 +151,8 @@ fn concerns_stretches(all: &BTreeSet<Vrp>, later: &BTreeSet<Vrp>) -> bool {
 fn a_change_concerns_the_prefixes_that_no_other_covers(rt: HostRuntime) {
     let all = ample_set(&rt, rt.alloc(), &PAYLOADS);
     let later = ample_set(&rt, rt.alloc(), &LATER);
-    assert!(rt; concerns_stretches(&all, &later));
+    let none = no_exceptions(&rt, rt.alloc());
+    assert!(rt; concerns_stretches(&none, &all, &later));
 }
 
 // Makes the change, and again where a growth is refused, which leaves the payloads. Answers how often one was.
