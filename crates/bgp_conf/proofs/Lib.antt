@@ -6,3 +6,4 @@ pub mod Accepted
 pub mod Addresses
 pub mod PeerLists
 pub mod PolicyActions
+pub mod Assertions

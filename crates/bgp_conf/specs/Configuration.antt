@@ -8,19 +8,21 @@ use Rattle.std.specs.BTreeMap.{is_at}
 use Rattle.net_prefix.specs.PrefixOrder.{prefix_cmp}
 use Rattle.net_prefix.specs.declared.asn.Asn.{Asn}
 use Rattle.net_prefix.specs.declared.prefix.Prefix.{Prefix}
+use Rattle.local_exceptions.specs.ExceptionSets.{ExceptionSets}
 use Rattle.policy.specs.declared.name.PolicyName.{PolicyName}
 use Rattle.policy.specs.PolicyNames.{is_same}
 use Rattle.policy.specs.PolicyTable.{PolicyTable}
 use Rattle.bgp_conf.specs.declared.conf.ConfiguredPeer.{ConfiguredPeer}
 
--- the own AS, the peers by their slots, the policies by their names, the local networks, and the costs of the `reach`
--- entries; each table rises, but the policies stand as their names came
+-- the own AS, the peers by their slots, the policies by their names, the local networks, the costs of the `reach` entries
+-- and the local exceptions; each table rises, but the policies stand as their names came
 pub record Configuration : Type 0 where
   pub own : Asn
   pub peers : List (ℕ × ConfiguredPeer)
   pub policies : PolicyTable
   pub networks : List Prefix
   pub reach : List (Prefix × ℕ)
+  pub exceptions : ExceptionSets
 
 -- the peer of a slot
 abbrev pub peer_at : Configuration → ℕ → Option ConfiguredPeer

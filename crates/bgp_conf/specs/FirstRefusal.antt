@@ -11,10 +11,13 @@ use Rattle.bgp_conf.specs.declared.conf.ConfiguredPeer.{ConfiguredPeer}
 use Rattle.bgp_conf.specs.declared.conf.TheConstants.{PEER_SLOTS, MAX_NETWORKS, MAX_REACH}
 use Rattle.bgp_conf.specs.declared.command.PeerConf.{PeerConf}
 use Rattle.bgp_conf.specs.declared.command.Command.{Command}
-use Rattle.bgp_conf.specs.declared.command.Command.TheVariants.{AddPeer, RemovePeer, Enable, Disable, SetPolicy, DropPolicy, UseIn, UseOut, Network, NoNetwork, Reach, NoReach}
+use Rattle.bgp_conf.specs.declared.command.Command.TheVariants.{AddPeer, RemovePeer, Enable, Disable, SetPolicy, DropPolicy, UseIn, UseOut, Network, NoNetwork, Reach, NoReach, Filter, NoFilter, Assert, NoAssert}
 use Rattle.bgp_conf.specs.declared.refusal.Refusal.{Refusal}
-use Rattle.bgp_conf.specs.declared.refusal.Refusal.TheVariants.{UnknownName, TooMany, Range, BadSlot, SlotTaken, AddressTaken}
+use Rattle.bgp_conf.specs.declared.refusal.Refusal.TheVariants.{UnknownName, UnknownException, TooMany, Range, BadSlot, SlotTaken, AddressTaken}
 use Rattle.bgp_conf.specs.RefusalNumbers.{refusal_of}
+use Rattle.bgp_conf.specs.ConfAfter.{asserted_of, is_asserted_by, is_filter_of}
+use Rattle.local_exceptions.specs.Filters.{filter_of}
+use Rattle.local_exceptions.specs.declared.exceptions.TheConstants.{MAX_ASSERTIONS, MAX_FILTERS}
 use Rattle.bgp_conf.specs.Configuration.{Configuration, peer_at, entry_at, is_network, uses_policy}
 
 -- the first test that holds gives the refusal
@@ -88,6 +91,26 @@ first_refusal configuration closing (Reach prefix cost) =
     first ((is_none (entry_at configuration.reach prefix) && nat_le MAX_REACH (length configuration.reach), TooMany) ∷ [])
 first_refusal configuration closing (NoReach prefix) =
     first ((is_none (entry_at configuration.reach prefix), UnknownName) ∷ [])
+first_refusal configuration closing (Filter prefix asn) =
+    first
+    ((is_none (filter_of prefix asn), Range)
+    ∷ (not (is_filter_of configuration.exceptions (filter_of prefix asn)) && nat_le MAX_FILTERS (length configuration.exceptions.filters), TooMany)
+    ∷ [])
+first_refusal configuration closing (NoFilter prefix asn) =
+    first
+    ((is_none (filter_of prefix asn), Range)
+    ∷ (not (is_filter_of configuration.exceptions (filter_of prefix asn)), UnknownException)
+    ∷ [])
+first_refusal configuration closing (Assert prefix max_len asn) =
+    first
+    ((is_none (asserted_of prefix max_len asn), Range)
+    ∷ (not (is_asserted_by configuration.exceptions (asserted_of prefix max_len asn)) && nat_le MAX_ASSERTIONS (length configuration.exceptions.asserted), TooMany)
+    ∷ [])
+first_refusal configuration closing (NoAssert prefix max_len asn) =
+    first
+    ((is_none (asserted_of prefix max_len asn), Range)
+    ∷ (not (is_asserted_by configuration.exceptions (asserted_of prefix max_len asn)), UnknownException)
+    ∷ [])
 
 -- for some slots whose last connection is still closing, nothing refuses the command
 abbrev pub IsAccepted : Configuration → Command → Type 0

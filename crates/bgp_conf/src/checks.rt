@@ -5,15 +5,16 @@ ghost use Rattle.bgp_conf.specs.Configuration.{peer_at};
 ghost use Rattle.bgp_conf.specs.FirstRefusal.{first_refusal, has_address, has_known_policies, is_in_range};
 
 use crate::command::{Command, PeerConf};
-use crate::conf::{Conf, MAX_NETWORKS, MAX_REACH, PEER_SLOTS, name_of};
+use crate::conf::{Conf, MAX_NETWORKS, MAX_REACH, PEER_SLOTS, asserted, name_of};
 use crate::refusal::Refusal;
 use bgp_attr::is_host;
-use net_prefix::Prefix;
+use local_exceptions::{Filter, MAX_ASSERTIONS, MAX_FILTERS};
+use net_prefix::{Asn, Prefix};
 use policy::{PolicyName, Rule};
 use std::alloc::Allocator;
 
 impl<A: Allocator + Clone> Conf<A> {
-    /// The first refusal of a command, in the order 40, 43, 45, 33, 30, 31, 32. `closing` has a bit for each slot
+    /// The first refusal of a command, in the order 40, 43, 45, 33, 34, 30, 31, 32. `closing` has a bit for each slot
     /// whose last connection is still closing.
     pub fn check(&self, command: &Command<'_>, closing: u64) -> Result<(), Refusal>
         ensures { MatchResult result
@@ -32,6 +33,12 @@ impl<A: Allocator + Clone> Conf<A> {
             Command::NoNetwork(prefix) => self.check_no_network(prefix),
             Command::Reach(prefix, _) => self.check_reach(prefix),
             Command::NoReach(prefix) => self.check_no_reach(prefix),
+            Command::Filter(prefix, asn) => self.check_filter(*prefix, *asn),
+            Command::NoFilter(prefix, asn) => self.check_no_filter(*prefix, *asn),
+            Command::Assert(prefix, max_len, asn) => self.check_assert(*prefix, *max_len, *asn),
+            Command::NoAssert(prefix, max_len, asn) => {
+                self.check_no_assert(*prefix, *max_len, *asn)
+            }
         }
     }
 
@@ -143,6 +150,64 @@ impl<A: Allocator + Clone> Conf<A> {
     {
         if self.reach.get(prefix).is_none() {
             return Err(Refusal::UnknownName);
+        }
+        Ok(())
+    }
+
+    fn check_filter(&self, prefix: Option<Prefix>, asn: Option<Asn>) -> Result<(), Refusal>
+        ensures { MatchResult result
+            (λ _. first_refusal self.now 0 (Command.Filter prefix asn) ≡ None)
+            (λ refusal. first_refusal self.now 0 (Command.Filter prefix asn) ≡ Some refusal) }
+    {
+        let Ok(filter) = Filter::new(prefix, asn) else {
+            return Err(Refusal::Range);
+        };
+        if !self.exceptions.has_filter(&filter) && self.exceptions.filters().len() >= MAX_FILTERS {
+            return Err(Refusal::TooMany);
+        }
+        Ok(())
+    }
+
+    fn check_no_filter(&self, prefix: Option<Prefix>, asn: Option<Asn>) -> Result<(), Refusal>
+        ensures { MatchResult result
+            (λ _. first_refusal self.now 0 (Command.NoFilter prefix asn) ≡ None)
+            (λ refusal. first_refusal self.now 0 (Command.NoFilter prefix asn) ≡ Some refusal) }
+    {
+        let Ok(filter) = Filter::new(prefix, asn) else {
+            return Err(Refusal::Range);
+        };
+        if !self.exceptions.has_filter(&filter) {
+            return Err(Refusal::UnknownException);
+        }
+        Ok(())
+    }
+
+    fn check_assert(&self, prefix: Prefix, max_len: u8, asn: Asn) -> Result<(), Refusal>
+        ensures { MatchResult result
+            (λ _. first_refusal self.now 0 (Command.Assert prefix max_len asn) ≡ None)
+            (λ refusal. first_refusal self.now 0 (Command.Assert prefix max_len asn) ≡ Some refusal) }
+    {
+        let Some(payload) = asserted(prefix, max_len, asn) else {
+            return Err(Refusal::Range);
+        };
+        if !self.exceptions.has_assertion(&payload)
+            && self.exceptions.assertions().len() >= MAX_ASSERTIONS
+        {
+            return Err(Refusal::TooMany);
+        }
+        Ok(())
+    }
+
+    fn check_no_assert(&self, prefix: Prefix, max_len: u8, asn: Asn) -> Result<(), Refusal>
+        ensures { MatchResult result
+            (λ _. first_refusal self.now 0 (Command.NoAssert prefix max_len asn) ≡ None)
+            (λ refusal. first_refusal self.now 0 (Command.NoAssert prefix max_len asn) ≡ Some refusal) }
+    {
+        let Some(payload) = asserted(prefix, max_len, asn) else {
+            return Err(Refusal::Range);
+        };
+        if !self.exceptions.has_assertion(&payload) {
+            return Err(Refusal::UnknownException);
         }
         Ok(())
     }

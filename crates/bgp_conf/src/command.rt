@@ -50,4 +50,13 @@ pub enum Command<'a> {
     Reach(Prefix, u32),
     /// Takes a prefix's interior cost away.
     NoReach(Prefix),
+    /// Takes out the payloads whose prefixes the prefix covers, if there is one, and which are of the AS, if there is one
+    /// (RFC 8416 section 3.3).
+    Filter(Option<Prefix>, Option<Asn>),
+    /// Takes a filter away.
+    NoFilter(Option<Prefix>, Option<Asn>),
+    /// Puts in the payload of this prefix, maximum length and AS (RFC 8416 section 3.4).
+    Assert(Prefix, u8, Asn),
+    /// Takes an assertion away.
+    NoAssert(Prefix, u8, Asn),
 }

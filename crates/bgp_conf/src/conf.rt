@@ -1,6 +1,7 @@
 //! The tables that commands fill.
 ghost use Rattle.std.specs.Prelude.{slice_get, ◌≡◌, ℕ, ◌==◌, ◌≤◌, [], true, None, IfOk, OnOk, OnErr, if◌then◌else◌};
 ghost use Rattle.std.specs.Option.{option_map};
+ghost use Rattle.local_exceptions.specs.ExceptionSets.{no_exceptions};
 ghost use Rattle.net_prefix.specs.declared.prefix.Prefix.{Prefix};
 ghost use Rattle.prefix_trie.specs.TrieMap.{IsRising};
 ghost use Rattle.policy.specs.PolicyNames.{is_policy_name, name_of};
@@ -8,14 +9,15 @@ ghost use Rattle.policy.specs.PolicyRefusals.{drop_refusal};
 ghost use Rattle.policy.specs.PolicyTable.{without_policy};
 ghost use Rattle.bgp_conf.specs.Configuration.{AddressesDiffer, entry_at, is_network, peer_at, uses_policy};
 ghost use Rattle.bgp_conf.specs.FirstRefusal.{IsAccepted, first_refusal, is_in_range};
-ghost use Rattle.bgp_conf.specs.ConfAfter.{TakesMemory, conf_after, configured_of, entry_after, exporting, importing, is_network_after, peer_after, with_changed};
+ghost use Rattle.bgp_conf.specs.ConfAfter.{TakesMemory, asserted_of, conf_after, configured_of, entry_after, exporting, importing, is_network_after, peer_after, with_changed};
 ghost use Rattle.bgp_conf.specs.PeerPolicies.{export_action, exports_by, import_action};
 ghost use Rattle.bgp_conf.specs.Reach.{IsCost};
 
 use crate::command::{Command, PeerConf};
 use crate::cost::Cost;
 use bgp_attr::Mode;
-use net_prefix::{Asn, Prefix};
+use local_exceptions::{Exceptions, Filter};
+use net_prefix::{Asn, Prefix, Vrp};
 use policy::{Action, Policies, PolicyName, Rule, SeenRoute};
 use prefix_trie::Trie;
 use std::alloc::{AllocError, Allocator, Global};
@@ -53,7 +55,7 @@ pub struct ConfiguredPeer {
     pub export: PolicyName,
 }
 
-/// The configured peers, policies, local networks and `reach` entries.
+/// The configured peers, policies, local networks and `reach` entries, and the local exceptions.
 #[derive(Drop)]
 pub struct Conf<A: Allocator = Global> {
     own: Asn,
@@ -61,6 +63,7 @@ pub struct Conf<A: Allocator = Global> {
     pub(crate) policies: Policies<A>,
     pub(crate) networks: BTreeSet<Prefix, A>,
     pub(crate) reach: Trie<Cost, A>,
+    pub(crate) exceptions: Exceptions<A>,
 }
 
 impl<A: Allocator> Model for Conf<A> {
@@ -68,24 +71,26 @@ impl<A: Allocator> Model for Conf<A> {
 
     ghost Value = { Configuration };
 
-    ghost view = { λ c. record { own = c.own; peers = c.peers.entries; policies = c.policies; networks = c.networks.keys; reach = c.reach } };
+    ghost view = { λ c. record { own = c.own; peers = c.peers.entries; policies = c.policies; networks = c.networks.keys; reach = c.reach; exceptions = c.exceptions } };
 }
 
 impl<A: Allocator + Clone + Copy> Conf<A> {
-    /// No peers, policies, local networks and `reach` entries, of a speaker of this AS.
+    /// No peers, policies, local networks, `reach` entries and exceptions, of a speaker of this AS.
     pub fn new(alloc: A, own: Asn) -> Result<Self, AllocError>
-        ensures { IfOk result (λ conf. conf ≡ record { own = own; peers = []; policies = []; networks = []; reach = [] }) }
+        ensures { IfOk result (λ conf. conf ≡ record { own = own; peers = []; policies = []; networks = []; reach = []; exceptions = no_exceptions }) }
     {
         let peers = BTreeMap::new(alloc.clone()?);
         let policies = Policies::new(alloc);
         let networks = BTreeSet::new(alloc.clone()?);
         let reach = Trie::new(alloc);
+        let exceptions = Exceptions::new(alloc)?;
         Ok(Conf {
             own,
             peers,
             policies,
             networks,
             reach,
+            exceptions,
         })
     }
 }
@@ -216,8 +221,69 @@ impl<A: Allocator + Clone> Conf<A> {
                 self.reach_rises();
                 self.reach.remove(prefix);
             }
+            Command::Filter(prefix, asn) => self.filter(*prefix, *asn)?,
+            Command::NoFilter(prefix, asn) => self.no_filter(*prefix, *asn),
+            Command::Assert(prefix, max_len, asn) => self.assert(*prefix, *max_len, *asn)?,
+            Command::NoAssert(prefix, max_len, asn) => self.no_assert(*prefix, *max_len, *asn),
         }
         Ok(())
+    }
+
+    // The filter of these parts, if it is one, is added. Where memory is refused, nothing changes.
+    fn filter(&mut self, prefix: Option<Prefix>, asn: Option<Asn>) -> Result<(), AllocError>
+        requires { IsAccepted self.old (Command.Filter prefix asn) }
+        ensures ok { OnOk result (self.new ≡ conf_after self.old (Command.Filter prefix asn)) }
+        ensures err { OnErr result (self.new ≡ self.old) }
+        ensures memory { OnErr result (TakesMemory self.old (Command.Filter prefix asn)) }
+    {
+        let Ok(filter) = Filter::new(prefix, asn) else {
+            return Ok(());
+        };
+        match self.exceptions.filter(filter) {
+            Ok(()) => Ok(()),
+            Err(_) => Err(AllocError),
+        }
+    }
+
+    // The filter of these parts, if it is one, is taken away.
+    fn no_filter(&mut self, prefix: Option<Prefix>, asn: Option<Asn>)
+        ensures { self.new ≡ conf_after self.old (Command.NoFilter prefix asn) }
+    {
+        if let Ok(filter) = Filter::new(prefix, asn) {
+            let _there = self.exceptions.no_filter(&filter);
+        }
+    }
+
+    // The payload of these parts, if it is one, is asserted. Where memory is refused, nothing changes.
+    fn assert(&mut self, prefix: Prefix, max_len: u8, asn: Asn) -> Result<(), AllocError>
+        requires { IsAccepted self.old (Command.Assert prefix max_len asn) }
+        ensures ok { OnOk result (self.new ≡ conf_after self.old (Command.Assert prefix max_len asn)) }
+        ensures err { OnErr result (self.new ≡ self.old) }
+        ensures memory { OnErr result (TakesMemory self.old (Command.Assert prefix max_len asn)) }
+    {
+        let Some(payload) = asserted(prefix, max_len, asn) else {
+            return Ok(());
+        };
+        match self.exceptions.assert(payload) {
+            Ok(()) => Ok(()),
+            Err(_) => Err(AllocError),
+        }
+    }
+
+    // The payload of these parts, if it is one, is asserted no more.
+    fn no_assert(&mut self, prefix: Prefix, max_len: u8, asn: Asn)
+        ensures { self.new ≡ conf_after self.old (Command.NoAssert prefix max_len asn) }
+    {
+        if let Some(payload) = asserted(prefix, max_len, asn) {
+            let _there = self.exceptions.no_assert(&payload);
+        }
+    }
+
+    /// The local exceptions.
+    pub fn exceptions(&self) -> &Exceptions<A>
+        ensures { result.now ≡ self.now.exceptions }
+    {
+        &self.exceptions
     }
 
     // Forgets a policy that nothing refuses to drop.
@@ -273,6 +339,13 @@ fn configured(peer: &PeerConf<'_>) -> ConfiguredPeer
         import: name_of(peer.import),
         export: name_of(peer.export),
     }
+}
+
+// The payload of these parts, where the maximum length is one of the prefix.
+pub(crate) fn asserted(prefix: Prefix, max_len: u8, asn: Asn) -> Option<Vrp>
+    ensures { result ≡ asserted_of prefix max_len asn }
+{
+    Vrp::new(prefix, max_len, asn).ok()
 }
 
 // The policy name that a text is, where it is one.

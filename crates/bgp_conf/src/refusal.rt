@@ -18,6 +18,8 @@ pub enum Refusal {
     InUse,
     #[error("a value is out of its range")]
     Range,
+    #[error("there is no such exception")]
+    UnknownException,
     #[error("there is no such slot")]
     BadSlot,
     #[error("the moment is before the last one")]
@@ -42,6 +44,7 @@ impl Refusal {
             Refusal::TooMany => 31,
             Refusal::InUse => 32,
             Refusal::Range => 33,
+            Refusal::UnknownException => 34,
             Refusal::BadSlot => 40,
             Refusal::ClockBack => 41,
             Refusal::NotExpected => 42,

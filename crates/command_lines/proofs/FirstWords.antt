@@ -2,11 +2,12 @@
 use Rattle.std.proofs.Common.{◌∙◌, true, false, nat_eq, ◌≡◌, ◌≢◌, ◌⊎◌, ◌∷◌, ℕ, List, Option, None, Some, MatchOption, codes, inl, inr, ap, refl, sym, subst}
 use Rattle.std.specs.Cmp.Lexicographic.{pointwise}
 use Rattle.bgp_conf.specs.declared.command.Command.{Command}
-use Rattle.bgp_conf.specs.declared.command.Command.TheVariants.{AddPeer, RemovePeer, Enable, Disable, SetPolicy, DropPolicy, UseIn, UseOut, Network, NoNetwork, Reach, NoReach}
+use Rattle.bgp_conf.specs.declared.command.Command.TheVariants.{AddPeer, RemovePeer, Enable, Disable, SetPolicy, DropPolicy, UseIn, UseOut, Network, NoNetwork, Reach, NoReach, Filter, NoFilter, Assert, NoAssert}
 use Rattle.bgp_conf.specs.declared.command.PeerConf.{PeerConf}
+use Rattle.net_prefix.specs.declared.asn.Asn.{Asn}
 use Rattle.net_prefix.specs.declared.prefix.Prefix.{Prefix}
 use Rattle.policy.specs.declared.rule.Rule.{Rule}
-use Rattle.command_lines.specs.CommandWords.{AreBehind, IsNamed, IsPolicy, IsPrefixWord, IsReach, IsSlot, IsSlotAndPeer, IsUse, SayNone, Says, word_of}
+use Rattle.command_lines.specs.CommandWords.{AreBehind, IsAssertion, IsFilter, IsNamed, IsPolicy, IsPrefixWord, IsReach, IsSlot, IsSlotAndPeer, IsUse, SayNone, Says, word_of}
 
 -- words that a test tells apart
 pub apart : (one two : List ℕ) → pointwise nat_eq one one ≡ true → pointwise nat_eq two one ≡ false → one ≢ two
@@ -62,6 +63,10 @@ peer_none behind none = says_none (codes "peer") behind each
     each (NoNetwork prefix) same is = apart _ _ refl refl same
     each (Reach prefix cost) same is = apart _ _ refl refl same
     each (NoReach prefix) same is = apart _ _ refl refl same
+    each (Filter prefix asn) same is = apart _ _ refl refl same
+    each (NoFilter prefix asn) same is = apart _ _ refl refl same
+    each (Assert prefix max_len asn) same is = apart _ _ refl refl same
+    each (NoAssert prefix max_len asn) same is = apart _ _ refl refl same
 
 pub drop_none : (behind : List (List ℕ)) → ((slot : ℕ) → ¬ (IsSlot behind slot)) → SayNone (codes "drop" ∷ behind)
 drop_none behind none = says_none (codes "drop") behind each
@@ -79,6 +84,10 @@ drop_none behind none = says_none (codes "drop") behind each
     each (NoNetwork prefix) same is = apart _ _ refl refl same
     each (Reach prefix cost) same is = apart _ _ refl refl same
     each (NoReach prefix) same is = apart _ _ refl refl same
+    each (Filter prefix asn) same is = apart _ _ refl refl same
+    each (NoFilter prefix asn) same is = apart _ _ refl refl same
+    each (Assert prefix max_len asn) same is = apart _ _ refl refl same
+    each (NoAssert prefix max_len asn) same is = apart _ _ refl refl same
 
 pub enable_none : (behind : List (List ℕ)) → ((slot : ℕ) → ¬ (IsSlot behind slot)) → SayNone (codes "enable" ∷ behind)
 enable_none behind none = says_none (codes "enable") behind each
@@ -96,6 +105,10 @@ enable_none behind none = says_none (codes "enable") behind each
     each (NoNetwork prefix) same is = apart _ _ refl refl same
     each (Reach prefix cost) same is = apart _ _ refl refl same
     each (NoReach prefix) same is = apart _ _ refl refl same
+    each (Filter prefix asn) same is = apart _ _ refl refl same
+    each (NoFilter prefix asn) same is = apart _ _ refl refl same
+    each (Assert prefix max_len asn) same is = apart _ _ refl refl same
+    each (NoAssert prefix max_len asn) same is = apart _ _ refl refl same
 
 pub disable_none : (behind : List (List ℕ)) → ((slot : ℕ) → ¬ (IsSlot behind slot)) → SayNone (codes "disable" ∷ behind)
 disable_none behind none = says_none (codes "disable") behind each
@@ -113,6 +126,10 @@ disable_none behind none = says_none (codes "disable") behind each
     each (NoNetwork prefix) same is = apart _ _ refl refl same
     each (Reach prefix cost) same is = apart _ _ refl refl same
     each (NoReach prefix) same is = apart _ _ refl refl same
+    each (Filter prefix asn) same is = apart _ _ refl refl same
+    each (NoFilter prefix asn) same is = apart _ _ refl refl same
+    each (Assert prefix max_len asn) same is = apart _ _ refl refl same
+    each (NoAssert prefix max_len asn) same is = apart _ _ refl refl same
 
 pub policy_none : (behind : List (List ℕ)) → ((name : List ℕ) (rules : List Rule) → ¬ (IsPolicy behind name rules)) → SayNone (codes "policy" ∷ behind)
 policy_none behind none = says_none (codes "policy") behind each
@@ -130,6 +147,10 @@ policy_none behind none = says_none (codes "policy") behind each
     each (NoNetwork prefix) same is = apart _ _ refl refl same
     each (Reach prefix cost) same is = apart _ _ refl refl same
     each (NoReach prefix) same is = apart _ _ refl refl same
+    each (Filter prefix asn) same is = apart _ _ refl refl same
+    each (NoFilter prefix asn) same is = apart _ _ refl refl same
+    each (Assert prefix max_len asn) same is = apart _ _ refl refl same
+    each (NoAssert prefix max_len asn) same is = apart _ _ refl refl same
 
 pub nopolicy_none : (behind : List (List ℕ)) → ((name : List ℕ) → ¬ (IsNamed behind name)) → SayNone (codes "nopolicy" ∷ behind)
 nopolicy_none behind none = says_none (codes "nopolicy") behind each
@@ -147,6 +168,10 @@ nopolicy_none behind none = says_none (codes "nopolicy") behind each
     each (NoNetwork prefix) same is = apart _ _ refl refl same
     each (Reach prefix cost) same is = apart _ _ refl refl same
     each (NoReach prefix) same is = apart _ _ refl refl same
+    each (Filter prefix asn) same is = apart _ _ refl refl same
+    each (NoFilter prefix asn) same is = apart _ _ refl refl same
+    each (Assert prefix max_len asn) same is = apart _ _ refl refl same
+    each (NoAssert prefix max_len asn) same is = apart _ _ refl refl same
 
 pub use_none : (behind : List (List ℕ)) → ((way : List ℕ) (slot : ℕ) (policy : List ℕ) → IsWay way → ¬ (IsUse way behind slot policy)) → SayNone (codes "use" ∷ behind)
 use_none behind none = says_none (codes "use") behind each
@@ -164,6 +189,10 @@ use_none behind none = says_none (codes "use") behind each
     each (NoNetwork prefix) same is = apart _ _ refl refl same
     each (Reach prefix cost) same is = apart _ _ refl refl same
     each (NoReach prefix) same is = apart _ _ refl refl same
+    each (Filter prefix asn) same is = apart _ _ refl refl same
+    each (NoFilter prefix asn) same is = apart _ _ refl refl same
+    each (Assert prefix max_len asn) same is = apart _ _ refl refl same
+    each (NoAssert prefix max_len asn) same is = apart _ _ refl refl same
 
 pub network_none : (behind : List (List ℕ)) → ((prefix : Prefix) → ¬ (IsPrefixWord behind prefix)) → SayNone (codes "network" ∷ behind)
 network_none behind none = says_none (codes "network") behind each
@@ -181,6 +210,10 @@ network_none behind none = says_none (codes "network") behind each
     each (NoNetwork prefix) same is = apart _ _ refl refl same
     each (Reach prefix cost) same is = apart _ _ refl refl same
     each (NoReach prefix) same is = apart _ _ refl refl same
+    each (Filter prefix asn) same is = apart _ _ refl refl same
+    each (NoFilter prefix asn) same is = apart _ _ refl refl same
+    each (Assert prefix max_len asn) same is = apart _ _ refl refl same
+    each (NoAssert prefix max_len asn) same is = apart _ _ refl refl same
 
 pub nonetwork_none : (behind : List (List ℕ)) → ((prefix : Prefix) → ¬ (IsPrefixWord behind prefix)) → SayNone (codes "nonetwork" ∷ behind)
 nonetwork_none behind none = says_none (codes "nonetwork") behind each
@@ -198,6 +231,10 @@ nonetwork_none behind none = says_none (codes "nonetwork") behind each
     each (NoNetwork prefix) same is = none prefix is
     each (Reach prefix cost) same is = apart _ _ refl refl same
     each (NoReach prefix) same is = apart _ _ refl refl same
+    each (Filter prefix asn) same is = apart _ _ refl refl same
+    each (NoFilter prefix asn) same is = apart _ _ refl refl same
+    each (Assert prefix max_len asn) same is = apart _ _ refl refl same
+    each (NoAssert prefix max_len asn) same is = apart _ _ refl refl same
 
 pub reach_none : (behind : List (List ℕ)) → ((prefix : Prefix) (cost : ℕ) → ¬ (IsReach behind prefix cost)) → SayNone (codes "reach" ∷ behind)
 reach_none behind none = says_none (codes "reach") behind each
@@ -215,6 +252,10 @@ reach_none behind none = says_none (codes "reach") behind each
     each (NoNetwork prefix) same is = apart _ _ refl refl same
     each (Reach prefix cost) same is = none prefix cost is
     each (NoReach prefix) same is = apart _ _ refl refl same
+    each (Filter prefix asn) same is = apart _ _ refl refl same
+    each (NoFilter prefix asn) same is = apart _ _ refl refl same
+    each (Assert prefix max_len asn) same is = apart _ _ refl refl same
+    each (NoAssert prefix max_len asn) same is = apart _ _ refl refl same
 
 pub noreach_none : (behind : List (List ℕ)) → ((prefix : Prefix) → ¬ (IsPrefixWord behind prefix)) → SayNone (codes "noreach" ∷ behind)
 noreach_none behind none = says_none (codes "noreach") behind each
@@ -232,3 +273,91 @@ noreach_none behind none = says_none (codes "noreach") behind each
     each (NoNetwork prefix) same is = apart _ _ refl refl same
     each (Reach prefix cost) same is = apart _ _ refl refl same
     each (NoReach prefix) same is = none prefix is
+    each (Filter prefix asn) same is = apart _ _ refl refl same
+    each (NoFilter prefix asn) same is = apart _ _ refl refl same
+    each (Assert prefix max_len asn) same is = apart _ _ refl refl same
+    each (NoAssert prefix max_len asn) same is = apart _ _ refl refl same
+
+pub filter_none : (behind : List (List ℕ)) → ((prefix : Option Prefix) (asn : Option Asn) → ¬ (IsFilter behind prefix asn)) → SayNone (codes "filter" ∷ behind)
+filter_none behind none = says_none (codes "filter") behind each
+  where
+    each : (command : Command) → codes "filter" ≡ word_of command → ¬ (AreBehind command behind)
+    each (AddPeer slot peer) same is = apart _ _ refl refl same
+    each (RemovePeer slot) same is = apart _ _ refl refl same
+    each (Enable slot) same is = apart _ _ refl refl same
+    each (Disable slot) same is = apart _ _ refl refl same
+    each (SetPolicy name rules) same is = apart _ _ refl refl same
+    each (DropPolicy name) same is = apart _ _ refl refl same
+    each (UseIn slot policy) same is = apart _ _ refl refl same
+    each (UseOut slot policy) same is = apart _ _ refl refl same
+    each (Network prefix) same is = apart _ _ refl refl same
+    each (NoNetwork prefix) same is = apart _ _ refl refl same
+    each (Reach prefix cost) same is = apart _ _ refl refl same
+    each (NoReach prefix) same is = apart _ _ refl refl same
+    each (Filter prefix asn) same is = none prefix asn is
+    each (NoFilter prefix asn) same is = apart _ _ refl refl same
+    each (Assert prefix max_len asn) same is = apart _ _ refl refl same
+    each (NoAssert prefix max_len asn) same is = apart _ _ refl refl same
+
+pub nofilter_none : (behind : List (List ℕ)) → ((prefix : Option Prefix) (asn : Option Asn) → ¬ (IsFilter behind prefix asn)) → SayNone (codes "nofilter" ∷ behind)
+nofilter_none behind none = says_none (codes "nofilter") behind each
+  where
+    each : (command : Command) → codes "nofilter" ≡ word_of command → ¬ (AreBehind command behind)
+    each (AddPeer slot peer) same is = apart _ _ refl refl same
+    each (RemovePeer slot) same is = apart _ _ refl refl same
+    each (Enable slot) same is = apart _ _ refl refl same
+    each (Disable slot) same is = apart _ _ refl refl same
+    each (SetPolicy name rules) same is = apart _ _ refl refl same
+    each (DropPolicy name) same is = apart _ _ refl refl same
+    each (UseIn slot policy) same is = apart _ _ refl refl same
+    each (UseOut slot policy) same is = apart _ _ refl refl same
+    each (Network prefix) same is = apart _ _ refl refl same
+    each (NoNetwork prefix) same is = apart _ _ refl refl same
+    each (Reach prefix cost) same is = apart _ _ refl refl same
+    each (NoReach prefix) same is = apart _ _ refl refl same
+    each (Filter prefix asn) same is = apart _ _ refl refl same
+    each (NoFilter prefix asn) same is = none prefix asn is
+    each (Assert prefix max_len asn) same is = apart _ _ refl refl same
+    each (NoAssert prefix max_len asn) same is = apart _ _ refl refl same
+
+pub assert_none : (behind : List (List ℕ)) → ((prefix : Prefix) (max_len : ℕ) (asn : Asn) → ¬ (IsAssertion behind prefix max_len asn)) → SayNone (codes "assert" ∷ behind)
+assert_none behind none = says_none (codes "assert") behind each
+  where
+    each : (command : Command) → codes "assert" ≡ word_of command → ¬ (AreBehind command behind)
+    each (AddPeer slot peer) same is = apart _ _ refl refl same
+    each (RemovePeer slot) same is = apart _ _ refl refl same
+    each (Enable slot) same is = apart _ _ refl refl same
+    each (Disable slot) same is = apart _ _ refl refl same
+    each (SetPolicy name rules) same is = apart _ _ refl refl same
+    each (DropPolicy name) same is = apart _ _ refl refl same
+    each (UseIn slot policy) same is = apart _ _ refl refl same
+    each (UseOut slot policy) same is = apart _ _ refl refl same
+    each (Network prefix) same is = apart _ _ refl refl same
+    each (NoNetwork prefix) same is = apart _ _ refl refl same
+    each (Reach prefix cost) same is = apart _ _ refl refl same
+    each (NoReach prefix) same is = apart _ _ refl refl same
+    each (Filter prefix asn) same is = apart _ _ refl refl same
+    each (NoFilter prefix asn) same is = apart _ _ refl refl same
+    each (Assert prefix max_len asn) same is = none prefix max_len asn is
+    each (NoAssert prefix max_len asn) same is = apart _ _ refl refl same
+
+pub noassert_none : (behind : List (List ℕ)) → ((prefix : Prefix) (max_len : ℕ) (asn : Asn) → ¬ (IsAssertion behind prefix max_len asn)) → SayNone (codes "noassert" ∷ behind)
+noassert_none behind none = says_none (codes "noassert") behind each
+  where
+    each : (command : Command) → codes "noassert" ≡ word_of command → ¬ (AreBehind command behind)
+    each (AddPeer slot peer) same is = apart _ _ refl refl same
+    each (RemovePeer slot) same is = apart _ _ refl refl same
+    each (Enable slot) same is = apart _ _ refl refl same
+    each (Disable slot) same is = apart _ _ refl refl same
+    each (SetPolicy name rules) same is = apart _ _ refl refl same
+    each (DropPolicy name) same is = apart _ _ refl refl same
+    each (UseIn slot policy) same is = apart _ _ refl refl same
+    each (UseOut slot policy) same is = apart _ _ refl refl same
+    each (Network prefix) same is = apart _ _ refl refl same
+    each (NoNetwork prefix) same is = apart _ _ refl refl same
+    each (Reach prefix cost) same is = apart _ _ refl refl same
+    each (NoReach prefix) same is = apart _ _ refl refl same
+    each (Filter prefix asn) same is = apart _ _ refl refl same
+    each (NoFilter prefix asn) same is = apart _ _ refl refl same
+    each (Assert prefix max_len asn) same is = apart _ _ refl refl same
+    each (NoAssert prefix max_len asn) same is = none prefix max_len asn is

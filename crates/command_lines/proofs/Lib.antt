@@ -1,3 +1,4 @@
+pub mod FilterWords
 pub mod FirstWords
 pub mod Numbers
 pub mod PrefixWords

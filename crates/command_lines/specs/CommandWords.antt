@@ -1,10 +1,11 @@
 -- The command that words say (own).
-use Rattle.std.specs.Prelude.{◌≡◌, ◌∷◌, [], ℕ, List, codes}
+use Rattle.std.specs.Prelude.{◌≡◌, ◌∷◌, [], ℕ, List, Option, None, Some, codes}
 use Rattle.bgp_attr.specs.declared.peer.Mode.{Mode}
 use Rattle.bgp_conf.specs.declared.command.Command.{Command}
-use Rattle.bgp_conf.specs.declared.command.Command.TheVariants.{AddPeer, RemovePeer, Enable, Disable, SetPolicy, DropPolicy, UseIn, UseOut, Network, NoNetwork, Reach, NoReach}
+use Rattle.bgp_conf.specs.declared.command.Command.TheVariants.{AddPeer, RemovePeer, Enable, Disable, SetPolicy, DropPolicy, UseIn, UseOut, Network, NoNetwork, Reach, NoReach, Filter, NoFilter, Assert, NoAssert}
 use Rattle.bgp_conf.specs.declared.command.PeerConf.{PeerConf}
 use Rattle.net_prefix.specs.PrefixText.{Writes}
+use Rattle.net_prefix.specs.declared.asn.Asn.{Asn}
 use Rattle.net_prefix.specs.declared.prefix.Prefix.{Prefix}
 use Rattle.policy.specs.declared.rule.Rule.{Rule}
 use Rattle.command_lines.specs.Keywords.{text_of}
@@ -52,6 +53,27 @@ IsPrefixWord words prefix = (word : List ℕ) × (words ≡ word ∷ []) × Writ
 abbrev pub IsReach : List (List ℕ) → Prefix → ℕ → Type 0
 IsReach words prefix cost = (word : List ℕ) × (number : List ℕ) × (words ≡ word ∷ number ∷ []) × WritesPrefix word prefix × WritesBits 32 number cost
 
+-- an AS
+abbrev pub IsAsWord : List (List ℕ) → Asn → Type 0
+IsAsWord words asn = (word : List ℕ) × (words ≡ word ∷ []) × WritesBits 32 word asn.0
+
+-- a prefix and an AS
+abbrev pub IsPrefixAndAs : List (List ℕ) → Prefix → Asn → Type 0
+IsPrefixAndAs words prefix asn = (word : List ℕ) × (number : List ℕ) × (words ≡ word ∷ number ∷ []) × WritesPrefix word prefix × WritesBits 32 number asn.0
+
+-- `prefix P`, `as AS` or `both P AS`
+abbrev pub IsFilter : List (List ℕ) → Option Prefix → Option Asn → Type 0
+IsFilter words None None = ⊥
+IsFilter words (Some prefix) None = (behind : List (List ℕ)) × (words ≡ codes "prefix" ∷ behind) × IsPrefixWord behind prefix
+IsFilter words None (Some asn) = (behind : List (List ℕ)) × (words ≡ codes "as" ∷ behind) × IsAsWord behind asn
+IsFilter words (Some prefix) (Some asn) = (behind : List (List ℕ)) × (words ≡ codes "both" ∷ behind) × IsPrefixAndAs behind prefix asn
+
+-- a prefix, a maximum length and an AS
+abbrev pub IsAssertion : List (List ℕ) → Prefix → ℕ → Asn → Type 0
+IsAssertion words prefix max_len asn =
+    (word : List ℕ) × (maximum : List ℕ) × (number : List ℕ) × (words ≡ word ∷ maximum ∷ number ∷ [])
+    × WritesPrefix word prefix × WritesBits 8 maximum max_len × WritesBits 32 number asn.0
+
 -- a slot, and what is said of its peer
 abbrev pub IsSlotAndPeer : List (List ℕ) → ℕ → PeerConf → Type 0
 IsSlotAndPeer words slot peer = (word : List ℕ) × (body : List (List ℕ)) × (words ≡ word ∷ body) × WritesBits 8 word slot × IsPeer body peer
@@ -74,6 +96,10 @@ keyword_in (Network prefix) = word.Network
 keyword_in (NoNetwork prefix) = word.NoNetwork
 keyword_in (Reach prefix cost) = word.Reach
 keyword_in (NoReach prefix) = word.NoReach
+keyword_in (Filter prefix asn) = word.Filter
+keyword_in (NoFilter prefix asn) = word.NoFilter
+keyword_in (Assert prefix max_len asn) = word.Assert
+keyword_in (NoAssert prefix max_len asn) = word.NoAssert
 
 -- how it is spelled
 abbrev pub word_of : Command → List ℕ
@@ -93,6 +119,10 @@ AreBehind (Network prefix) words = IsPrefixWord words prefix
 AreBehind (NoNetwork prefix) words = IsPrefixWord words prefix
 AreBehind (Reach prefix cost) words = IsReach words prefix cost
 AreBehind (NoReach prefix) words = IsPrefixWord words prefix
+AreBehind (Filter prefix asn) words = IsFilter words prefix asn
+AreBehind (NoFilter prefix asn) words = IsFilter words prefix asn
+AreBehind (Assert prefix max_len asn) words = IsAssertion words prefix max_len asn
+AreBehind (NoAssert prefix max_len asn) words = IsAssertion words prefix max_len asn
 
 -- the words say this command
 abbrev pub Says : List (List ℕ) → Command → Type 0

@@ -1,7 +1,7 @@
 -- The first words of commands (own).
 use Rattle.std.specs.Prelude.{ℕ, List, codes}
 use Rattle.command_lines.specs.declared.keywords.Keyword.{Keyword}
-use Rattle.command_lines.specs.declared.keywords.Keyword.TheVariants.{Peer, Drop, Enable, Disable, Policy, NoPolicy, Use, Network, NoNetwork, Reach, NoReach}
+use Rattle.command_lines.specs.declared.keywords.Keyword.TheVariants.{Peer, Drop, Enable, Disable, Policy, NoPolicy, Use, Network, NoNetwork, Reach, NoReach, Filter, NoFilter, Assert, NoAssert}
 
 -- how a first word is spelled
 abbrev pub text_of : Keyword → List ℕ
@@ -16,3 +16,7 @@ text_of Network = codes "network"
 text_of NoNetwork = codes "nonetwork"
 text_of Reach = codes "reach"
 text_of NoReach = codes "noreach"
+text_of Filter = codes "filter"
+text_of NoFilter = codes "nofilter"
+text_of Assert = codes "assert"
+text_of NoAssert = codes "noassert"

@@ -1,14 +1,14 @@
 //! The command of a line.
 ghost use Rattle.std.specs.Prelude.{◌≡◌, ◌≢◌, ◌∷◌, ℕ, List, MatchOption, codes, map};
 ghost use Rattle.bgp_attr.specs.declared.peer.Mode.{Mode as Way};
-ghost use Rattle.command_lines.specs.CommandWords.{AreTerms, IsNamed, IsPeer, IsPrefixWord, IsSlot, SayNone, Says, SaysLine};
+ghost use Rattle.command_lines.specs.CommandWords.{AreTerms, IsAsWord, IsAssertion, IsFilter, IsNamed, IsPeer, IsPrefixAndAs, IsPrefixWord, IsSlot, SayNone, Says, SaysLine};
 ghost use Rattle.command_lines.specs.Words.{Finds, IsName, Reads, words_in};
 ghost use Rattle.command_lines.specs.declared.command_line.LineFault.TheVariants.{NoMemory};
 
-use crate::fields::{address, is_word, long, mode_of, name_of, octet, prefix_of, short};
+use crate::fields::{address, asn_of, is_word, long, mode_of, name_of, octet, prefix_of, short};
 use crate::keywords::{Keyword, keyword_of};
 use crate::rules::rules_of;
-use crate::words::{first_three, first_word, only_word, two_words, words_of};
+use crate::words::{first_three, first_word, only_word, three_words, two_words, words_of};
 use bgp_attr::Mode;
 use bgp_conf::{Command, PeerConf, Rule};
 use net_prefix::{Asn, Prefix};
@@ -38,8 +38,9 @@ impl From<AllocError> for LineFault {
 #[derive(Drop)]
 pub enum CommandLine<'a> {
     /// `peer SLOT AS ADDRESS LOCAL active|passive HOLD IMPORT EXPORT`, `drop SLOT`, `enable SLOT`, `disable SLOT`,
-    /// `nopolicy NAME`, `use in SLOT NAME`, `use out SLOT NAME`, `network PREFIX`, `nonetwork PREFIX`, `reach PREFIX COST` or
-    /// `noreach PREFIX`
+    /// `nopolicy NAME`, `use in SLOT NAME`, `use out SLOT NAME`, `network PREFIX`, `nonetwork PREFIX`, `reach PREFIX COST`,
+    /// `noreach PREFIX`, `filter prefix PREFIX`, `filter as AS`, `filter both PREFIX AS`, `assert PREFIX MAX AS`, and the same
+    /// behind `nofilter` and `noassert`
     Plain(Command<'a>),
     /// `policy NAME RULE ; RULE ..`
     SetPolicy(&'a str, Vec<Rule>),
@@ -117,6 +118,22 @@ fn command<'a>(word: &str, words: &[&'a str]) -> Option<Command<'a>>
         Keyword::NoNetwork => Some(Command::NoNetwork(prefix(words)?)),
         Keyword::Reach => reach(words),
         Keyword::NoReach => Some(Command::NoReach(prefix(words)?)),
+        Keyword::Filter => {
+            let (prefix, asn) = filter(words)?;
+            Some(Command::Filter(prefix, asn))
+        }
+        Keyword::NoFilter => {
+            let (prefix, asn) = filter(words)?;
+            Some(Command::NoFilter(prefix, asn))
+        }
+        Keyword::Assert => {
+            let (prefix, max_len, asn) = assertion(words)?;
+            Some(Command::Assert(prefix, max_len, asn))
+        }
+        Keyword::NoAssert => {
+            let (prefix, max_len, asn) = assertion(words)?;
+            Some(Command::NoAssert(prefix, max_len, asn))
+        }
     }
 }
 
@@ -143,6 +160,45 @@ fn reach<'a>(words: &[&'a str]) -> Option<Command<'a>>
 {
     let (prefix, cost) = two_words(words)?;
     Some(Command::Reach(prefix_of(prefix)?, long(cost)?))
+}
+
+fn asn(words: &[&str]) -> Option<Asn>
+    ensures { Finds (IsAsWord (map (λ word. word.now) words.now)) result }
+{
+    asn_of(only_word(words)?)
+}
+
+fn prefix_and_as(words: &[&str]) -> Option<(Prefix, Asn)>
+    ensures { Finds (λ both. IsPrefixAndAs (map (λ word. word.now) words.now) both.0 both.1) result }
+{
+    let (prefix, asn) = two_words(words)?;
+    Some((prefix_of(prefix)?, asn_of(asn)?))
+}
+
+// The parts of a filter.
+fn filter(words: &[&str]) -> Option<(Option<Prefix>, Option<Asn>)>
+    ensures { Finds (λ parts. IsFilter (map (λ word. word.now) words.now) parts.0 parts.1) result }
+{
+    let (kind, words) = first_word(words)?;
+    if is_word(kind, "prefix") {
+        return Some((Some(prefix(words)?), None));
+    }
+    if is_word(kind, "as") {
+        return Some((None, Some(asn(words)?)));
+    }
+    if is_word(kind, "both") {
+        let (prefix, asn) = prefix_and_as(words)?;
+        return Some((Some(prefix), Some(asn)));
+    }
+    None
+}
+
+// The prefix, the maximum length and the AS of an assertion.
+fn assertion(words: &[&str]) -> Option<(Prefix, u8, Asn)>
+    ensures { Finds (λ parts. IsAssertion (map (λ word. word.now) words.now) parts.0 parts.1 parts.2) result }
+{
+    let (prefix, max_len, asn) = three_words(words)?;
+    Some((prefix_of(prefix)?, octet(max_len)?, asn_of(asn)?))
 }
 
 fn use_policy<'a>(words: &[&'a str]) -> Option<Command<'a>>

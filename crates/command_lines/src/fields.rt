@@ -7,7 +7,7 @@ ghost use Rattle.command_lines.specs.CommandWords.{WritesPrefix};
 ghost use Rattle.command_lines.specs.Words.{Finds, IsName, WritesAddress, WritesBits, mode_word};
 
 use bgp_attr::Mode;
-use net_prefix::Prefix;
+use net_prefix::{Asn, Prefix};
 use std::net::Ipv4Addr;
 use std::str::FromStr;
 
@@ -51,6 +51,13 @@ pub(crate) fn long(text: &str) -> Option<u32>
     ensures { Finds (WritesBits 32 text.now) result }
 {
     number(text)
+}
+
+/// The AS of a number.
+pub(crate) fn asn_of(text: &str) -> Option<Asn>
+    ensures { Finds (λ asn. WritesBits 32 text.now asn.0) result }
+{
+    Some(Asn(long(text)?))
 }
 
 /// Whether a word is this one.

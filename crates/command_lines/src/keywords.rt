@@ -17,6 +17,10 @@ pub(crate) enum Keyword {
     NoNetwork,
     Reach,
     NoReach,
+    Filter,
+    NoFilter,
+    Assert,
+    NoAssert,
 }
 
 /// Which first word this one is.
@@ -35,6 +39,10 @@ pub(crate) fn keyword_of(word: &str) -> Option<Keyword>
         "nonetwork" => Some(Keyword::NoNetwork),
         "reach" => Some(Keyword::Reach),
         "noreach" => Some(Keyword::NoReach),
+        "filter" => Some(Keyword::Filter),
+        "nofilter" => Some(Keyword::NoFilter),
+        "assert" => Some(Keyword::Assert),
+        "noassert" => Some(Keyword::NoAssert),
         _ => None,
     }
 }

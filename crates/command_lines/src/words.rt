@@ -41,6 +41,16 @@ pub(crate) fn two_words<'a>(words: &[&'a str]) -> Option<(&'a str, &'a str)>
     }
 }
 
+/// The three words, where there are just three.
+pub(crate) fn three_words<'a>(words: &[&'a str]) -> Option<(&'a str, &'a str, &'a str)>
+    ensures { MatchOption result ((one two three : List ℕ) → map (λ word. word.now) words.now ≢ one ∷ two ∷ three ∷ []) (λ all. map (λ word. word.now) words.now ≡ all.0.now ∷ all.1.now ∷ all.2.now ∷ []) }
+{
+    match words {
+        [one, two, three] => Some((*one, *two, *three)),
+        _ => None,
+    }
+}
+
 /// The first three words, and those behind them.
 pub(crate) fn first_three<'w, 'a>(
     words: &'w [&'a str],

@@ -86,7 +86,7 @@ fn first_cause<'a>(
     if first == "policy" {
         return Ok(policy_cause(rest).unwrap_or(LineCause::NoCommand));
     }
-    match form_of(first) {
+    match form_of(first, rest) {
         Some(form) => Ok(misfit(rest, form).unwrap_or(LineCause::NoCommand)),
         None => unknown(alloc, first, others),
     }

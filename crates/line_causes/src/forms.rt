@@ -25,8 +25,18 @@ const PREFIX: [Part; 1] = [Part::Prefix];
 
 const REACH: [Part; 2] = [Part::Prefix, Part::Cost];
 
-/// What stands behind the first word of a command, save that of a policy's rules.
-pub(crate) fn form_of(word: &str) -> Option<&'static [Part]> {
+const FILTER: [Part; 1] = [Part::FilterKind];
+
+const FILTER_PREFIX: [Part; 2] = [Part::FilterKind, Part::Prefix];
+
+const FILTER_AS: [Part; 2] = [Part::FilterKind, Part::As];
+
+const FILTER_BOTH: [Part; 3] = [Part::FilterKind, Part::Prefix, Part::As];
+
+const ASSERTION: [Part; 3] = [Part::Prefix, Part::MaxLength, Part::As];
+
+/// What is to stand behind the first word of a command, where these words do, save behind that of a policy's rules.
+pub(crate) fn form_of(word: &str, behind: &[&str]) -> Option<&'static [Part]> {
     match word {
         "peer" => Some(&PEER),
         "drop" | "enable" | "disable" => Some(&SLOT),
@@ -34,7 +44,22 @@ pub(crate) fn form_of(word: &str) -> Option<&'static [Part]> {
         "use" => Some(&USE),
         "network" | "nonetwork" | "noreach" => Some(&PREFIX),
         "reach" => Some(&REACH),
+        "filter" | "nofilter" => Some(filter_form(behind)),
+        "assert" | "noassert" => Some(&ASSERTION),
         _ => None,
+    }
+}
+
+// What is to stand behind `filter`, where these words do.
+fn filter_form(words: &[&str]) -> &'static [Part] {
+    let Some(kind) = words.first() else {
+        return &FILTER;
+    };
+    match *kind {
+        "prefix" => &FILTER_PREFIX,
+        "as" => &FILTER_AS,
+        "both" => &FILTER_BOTH,
+        _ => &FILTER,
     }
 }
 

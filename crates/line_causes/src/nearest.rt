@@ -4,7 +4,7 @@ use std::alloc::{AllocError, Global};
 use strsim::levenshtein;
 
 /// The first words of commands.
-pub(crate) const FIRST_WORDS: [&str; 11] = [
+pub(crate) const FIRST_WORDS: [&str; 15] = [
     "peer",
     "drop",
     "enable",
@@ -16,6 +16,10 @@ pub(crate) const FIRST_WORDS: [&str; 11] = [
     "nonetwork",
     "reach",
     "noreach",
+    "filter",
+    "nofilter",
+    "assert",
+    "noassert",
 ];
 
 // A word of more octets isn't compared (own choice).

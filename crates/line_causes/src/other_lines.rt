@@ -21,7 +21,7 @@ const PREFIX: [Part; 1] = [Part::Prefix];
 
 /// The lines of an operator of a speaker that command nothing.
 #[rattlefmt::skip]
-pub const OPERATOR_LINES: [OtherLine; 13] = [
+pub const OPERATOR_LINES: [OtherLine; 14] = [
     OtherLine { first: "show", second: Some("sessions"), form: &[] },
     OtherLine { first: "show", second: Some("peers"), form: &[] },
     OtherLine { first: "show", second: Some("cache"), form: &[] },
@@ -32,6 +32,7 @@ pub const OPERATOR_LINES: [OtherLine; 13] = [
     OtherLine { first: "show", second: Some("held"), form: &SLOT },
     OtherLine { first: "show", second: Some("waiting"), form: &SLOT },
     OtherLine { first: "show", second: Some("policies"), form: &[] },
+    OtherLine { first: "show", second: Some("exceptions"), form: &[] },
     OtherLine { first: "clear", second: None, form: &SLOT },
     OtherLine { first: "stop", second: None, form: &[] },
     OtherLine { first: "help", second: None, form: &[] },

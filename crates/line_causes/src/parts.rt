@@ -31,6 +31,10 @@ pub enum Part {
     Prefix,
     #[error("COST, a number of 0 to 4294967295")]
     Cost,
+    #[error("prefix, as or both")]
+    FilterKind,
+    #[error("MAX, a number of 0 to 32")]
+    MaxLength,
     #[error("the least length of the prefixes, a number of 0 to 32")]
     LeastLength,
     #[error("the greatest length of the prefixes, a number of 0 to 32")]
@@ -51,9 +55,8 @@ impl Part {
     /// Whether the word is what is wanted here.
     pub(crate) fn is_met_by(self, word: &str) -> bool {
         match self {
-            Part::Slot | Part::LeastLength | Part::GreatestLength | Part::Octet => {
-                number::<u8>(word).is_some()
-            }
+            Part::Slot | Part::MaxLength | Part::LeastLength | Part::GreatestLength | Part::Octet =>
+                number::<u8>(word).is_some(),
             Part::As | Part::Cost | Part::Long => number::<u32>(word).is_some(),
             Part::Hold => number::<u16>(word).is_some(),
             Part::Address | Part::Local => address(word).is_some(),
@@ -61,6 +64,7 @@ impl Part {
             Part::Import | Part::Export | Part::Name => !word.is_empty(),
             Part::Direction => matches!(word, "in" | "out"),
             Part::Prefix => Prefix::parse(word).is_ok(),
+            Part::FilterKind => matches!(word, "prefix" | "as" | "both"),
             Part::State => matches!(word, "valid" | "invalid" | "notfound"),
             Part::Rule | Part::Action => false,
         }

@@ -6,7 +6,8 @@ use bgp_conf::{
     Action, Command, Condition, Conf, ConfiguredPeer, PeerConf, PolicyName, Refusal, Rule,
     SeenRoute,
 };
-use net_prefix::{Asn, Prefix};
+use local_exceptions::Filter;
+use net_prefix::{Asn, Prefix, Vrp};
 use origin_valid::Validity;
 use std::alloc::Global;
 use std::process::Abort;
@@ -37,11 +38,12 @@ fn a_policy_has_a_name(rt: HostRuntime) {
     assert!(rt; conf.check(&command, 0) == Err(Refusal::Range));
 }
 
-const NUMBERS: [(Refusal, u8); 10] = [
+const NUMBERS: [(Refusal, u8); 11] = [
     (Refusal::UnknownName, 30),
     (Refusal::TooMany, 31),
     (Refusal::InUse, 32),
     (Refusal::Range, 33),
+    (Refusal::UnknownException, 34),
     (Refusal::BadSlot, 40),
     (Refusal::ClockBack, 41),
     (Refusal::NotExpected, 42),
@@ -301,4 +303,139 @@ fn a_peer_is_told_routes_by_another_policy(rt: HostRuntime) {
 fn a_peer_takes_its_routes_by_another_policy(rt: HostRuntime) {
     let mut conf = new_conf(&rt, rt.alloc());
     assert!(rt; uses(&mut conf, &Command::UseIn(0, "preferred"), &TAKEN_BY_RULES));
+}
+
+// A command, and whether it is refused.
+type Answered = (Command<'static>, Option<Refusal>);
+
+// Whether the commands are answered so, one behind the other.
+fn answers(conf: &mut Conf, rows: &[Answered]) -> bool {
+    for (command, wanted) in rows {
+        let is_so = match conf.check(command, 0) {
+            Ok(()) => wanted.is_none() && conf.apply(command).is_ok(),
+            Err(refusal) => *wanted == Some(refusal),
+        };
+        if !is_so {
+            return false;
+        }
+    }
+    true
+}
+
+// Filters of a prefix, of an AS and of both are three; one that is there changes nothing, and one is taken away just once.
+#[rattlefmt::skip]
+const FILTERS: [Answered; 12] = [
+    (Command::Filter(None, None),                  Some(Refusal::Range)),
+    (Command::NoFilter(None, None),                Some(Refusal::Range)),
+    (Command::NoFilter(Some(NETWORK), None),       Some(Refusal::UnknownException)),
+    (Command::Filter(Some(NETWORK), None),         None),
+    (Command::NoFilter(Some(NETWORK), Some(Asn(1))), Some(Refusal::UnknownException)),
+    (Command::NoFilter(None, Some(Asn(1))),        Some(Refusal::UnknownException)),
+    (Command::Filter(None, Some(Asn(1))),          None),
+    (Command::Filter(Some(NETWORK), Some(Asn(1))), None),
+    (Command::Filter(Some(NETWORK), None),         None),
+    (Command::NoFilter(Some(INNER), None),         Some(Refusal::UnknownException)),
+    (Command::NoFilter(Some(NETWORK), None),       None),
+    (Command::NoFilter(Some(NETWORK), None),       Some(Refusal::UnknownException)),
+];
+
+// Whether just the two filters that are left are there.
+fn has_two_filters(conf: &Conf) -> bool {
+    let exceptions = conf.exceptions();
+    exceptions.filters().len() == 2
+        && exceptions.has_filter(&Filter::As(Asn(1)))
+        && exceptions.has_filter(&Filter::Both(NETWORK, Asn(1)))
+        && exceptions.assertions().is_empty()
+}
+
+#[test]
+fn filters_come_and_go(rt: HostRuntime) {
+    let mut conf = new_conf(&rt, rt.alloc());
+    assert!(rt; answers(&mut conf, &FILTERS) && has_two_filters(&conf));
+}
+
+// The maximum length is from the length of the prefix to 32, also of one to take away.
+#[rattlefmt::skip]
+const ASSERTIONS: [Answered; 14] = [
+    (Command::Assert(NETWORK, 23, Asn(1)),    Some(Refusal::Range)),
+    (Command::Assert(NETWORK, 33, Asn(1)),    Some(Refusal::Range)),
+    (Command::NoAssert(NETWORK, 23, Asn(1)),  Some(Refusal::Range)),
+    (Command::NoAssert(NETWORK, 255, Asn(1)), Some(Refusal::Range)),
+    (Command::NoAssert(NETWORK, 24, Asn(1)),  Some(Refusal::UnknownException)),
+    (Command::Assert(NETWORK, 24, Asn(1)),    None),
+    (Command::Assert(NETWORK, 32, Asn(1)),    None),
+    (Command::Assert(NETWORK, 24, Asn(0)),    None),
+    (Command::Assert(NETWORK, 24, Asn(1)),    None),
+    (Command::NoAssert(NETWORK, 25, Asn(1)),  Some(Refusal::UnknownException)),
+    (Command::NoAssert(NETWORK, 24, Asn(2)),  Some(Refusal::UnknownException)),
+    (Command::NoAssert(INNER, 25, Asn(1)),    Some(Refusal::UnknownException)),
+    (Command::NoAssert(NETWORK, 24, Asn(1)),  None),
+    (Command::NoAssert(NETWORK, 24, Asn(1)),  Some(Refusal::UnknownException)),
+];
+
+// Whether the payload of the network is asserted.
+fn is_asserted(conf: &Conf, max_len: u8, asn: Asn) -> bool {
+    match Vrp::new(NETWORK, max_len, asn) {
+        Ok(payload) => conf.exceptions().has_assertion(&payload),
+        Err(_) => false,
+    }
+}
+
+// Whether just the two assertions that are left are there.
+fn has_two_assertions(conf: &Conf) -> bool {
+    let exceptions = conf.exceptions();
+    exceptions.assertions().len() == 2
+        && is_asserted(conf, 32, Asn(1))
+        && is_asserted(conf, 24, Asn(0))
+        && exceptions.filters().is_empty()
+}
+
+#[test]
+fn assertions_come_and_go(rt: HostRuntime) {
+    let mut conf = new_conf(&rt, rt.alloc());
+    assert!(rt; answers(&mut conf, &ASSERTIONS) && has_two_assertions(&conf));
+}
+
+// As many filters and assertions as there may be.
+const MOST: u32 = 4096;
+
+// Whether as many are taken, of each AS one.
+fn fills(conf: &mut Conf) -> bool {
+    for number in 0..MOST {
+        let asn = Asn(number);
+        let is_filled = obeys(conf, &Command::Filter(None, Some(asn)))
+            && obeys(conf, &Command::Assert(NETWORK, 24, asn));
+        if !is_filled {
+            return false;
+        }
+    }
+    true
+}
+
+// The range comes before the limit, and what is there is no more; one that goes makes room for another.
+#[rattlefmt::skip]
+const AT_THE_LIMITS: [Answered; 17] = [
+    (Command::Filter(None, None),              Some(Refusal::Range)),
+    (Command::Filter(None, Some(Asn(4096))),   Some(Refusal::TooMany)),
+    (Command::Filter(Some(NETWORK), None),     Some(Refusal::TooMany)),
+    (Command::Filter(None, Some(Asn(4095))),   None),
+    (Command::NoFilter(None, Some(Asn(4096))), Some(Refusal::UnknownException)),
+    (Command::Assert(NETWORK, 23, Asn(4096)),  Some(Refusal::Range)),
+    (Command::Assert(NETWORK, 24, Asn(4096)),  Some(Refusal::TooMany)),
+    (Command::Assert(NETWORK, 25, Asn(0)),     Some(Refusal::TooMany)),
+    (Command::Assert(NETWORK, 24, Asn(4095)),  None),
+    (Command::NoAssert(NETWORK, 25, Asn(0)),   Some(Refusal::UnknownException)),
+    (Command::NoAssert(NETWORK, 24, Asn(0)),   None),
+    (Command::Filter(Some(NETWORK), None),     Some(Refusal::TooMany)),
+    (Command::Assert(NETWORK, 25, Asn(0)),     None),
+    (Command::Assert(NETWORK, 24, Asn(0)),     Some(Refusal::TooMany)),
+    (Command::NoFilter(None, Some(Asn(0))),    None),
+    (Command::Filter(Some(NETWORK), None),     None),
+    (Command::Filter(None, Some(Asn(0))),      Some(Refusal::TooMany)),
+];
+
+#[test]
+fn there_are_4096_exceptions_of_a_kind_at_most(rt: HostRuntime) {
+    let mut conf = new_conf(&rt, rt.alloc());
+    assert!(rt; fills(&mut conf) && answers(&mut conf, &AT_THE_LIMITS));
 }

@@ -1,5 +1,5 @@
 use Rattle.bgp_conf.specs.declared.command.Command.TheVariants.{RemovePeer, Enable, Disable, DropPolicy, Network, NoNetwork, NoReach}
-use Rattle.command_lines.proofs.FirstWords.{disable_none, drop_none, enable_none, network_none, nonetwork_none, nopolicy_none, noreach_none, none_as, says_as, says_none, some_as}
+use Rattle.command_lines.proofs.FirstWords.{assert_none, disable_none, drop_none, enable_none, filter_none, network_none, noassert_none, nofilter_none, nonetwork_none, nopolicy_none, noreach_none, none_as, says_as, says_none, some_as}
 use Rattle.command_lines.specs.CommandWords.{keyword_in}
 use Rattle.command_lines.proofs.command_line.command.Goals as goal
 
@@ -59,3 +59,15 @@ returns-in_err-prefix-in-NoReach c = rw c.from_residual-in_err-prefix-in-NoReach
 
 pub returns-in_ok-prefix-in-NoReach : goal.returns-in_ok-prefix-in-NoReach
 returns-in_ok-prefix-in-NoReach c = some_as c.args.word.now _ (NoReach c.in_ok-prefix-in-NoReach.field-0) (rw c.in-NoReach.is at c.in_ok-keyword.ensures) c.in_ok-prefix-in-NoReach.ensures
+
+pub returns-in_err-prefix-in-Filter : goal.returns-in_err-prefix-in-Filter
+returns-in_err-prefix-in-Filter c = rw c.from_residual-in_err-prefix-in-Filter.ensures (none_as c.args.word.now _ _ (rw c.in-Filter.is at c.in_ok-keyword.ensures) (filter_none _ (λ prefix asn. c.in_err-prefix-in-Filter.ensures (prefix, asn))))
+
+pub returns-in_err-prefix-in-NoFilter : goal.returns-in_err-prefix-in-NoFilter
+returns-in_err-prefix-in-NoFilter c = rw c.from_residual-in_err-prefix-in-NoFilter.ensures (none_as c.args.word.now _ _ (rw c.in-NoFilter.is at c.in_ok-keyword.ensures) (nofilter_none _ (λ prefix asn. c.in_err-prefix-in-NoFilter.ensures (prefix, asn))))
+
+pub returns-in_err-prefix-in-Assert : goal.returns-in_err-prefix-in-Assert
+returns-in_err-prefix-in-Assert c = rw c.from_residual-in_err-prefix-in-Assert.ensures (none_as c.args.word.now _ _ (rw c.in-Assert.is at c.in_ok-keyword.ensures) (assert_none _ (λ prefix max_len asn. c.in_err-prefix-in-Assert.ensures (prefix, max_len, asn))))
+
+pub returns-in_err-prefix-in-NoAssert : goal.returns-in_err-prefix-in-NoAssert
+returns-in_err-prefix-in-NoAssert c = rw c.from_residual-in_err-prefix-in-NoAssert.ensures (none_as c.args.word.now _ _ (rw c.in-NoAssert.is at c.in_ok-keyword.ensures) (noassert_none _ (λ prefix max_len asn. c.in_err-prefix-in-NoAssert.ensures (prefix, max_len, asn))))

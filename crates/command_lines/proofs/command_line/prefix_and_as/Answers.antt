@@ -1,0 +1,20 @@
+use Rattle.std.proofs.Common.{◌≡◌, subst}
+use Rattle.command_lines.specs.CommandWords.{WritesPrefix}
+use Rattle.command_lines.specs.Words.{WritesBits}
+use Rattle.command_lines.proofs.command_line.prefix_and_as.Goals as goal
+
+pub returns-in_err-prefix : goal.returns-in_err-prefix
+returns-in_err-prefix c = rw c.from_residual.ensures (λ both is. c.in_err-prefix.ensures is.0 is.1 is.2)
+
+pub returns-in_err-prefix_of : goal.returns-in_err-prefix_of
+returns-in_err-prefix_of c = rw c.from_residual-in_err-prefix_of.ensures (λ both is.
+    let same : is.0 ≡ c.in_ok-prefix.prefix.now = let one = is.2 in let other = c.in_ok-prefix.ensures in cc in
+    c.in_err-prefix_of.ensures both.0 (subst (λ word. WritesPrefix word both.0) same is.3))
+
+pub returns-in_err-asn_of : goal.returns-in_err-asn_of
+returns-in_err-asn_of c = rw c.from_residual-in_err-asn_of.ensures (λ both is.
+    let same : is.1 ≡ c.in_ok-prefix.asn.now = let one = is.2 in let other = c.in_ok-prefix.ensures in cc in
+    c.in_err-asn_of.ensures both.1 (subst (λ word. WritesBits 32 word both.1.0) same is.4))
+
+pub returns : goal.returns
+returns c = (_, _, c.in_ok-prefix.ensures, c.in_ok-prefix_of.ensures, c.in_ok-asn_of.ensures)
