@@ -9,7 +9,7 @@ use Rattle.bgp_conf.specs.Configuration.{Configuration, peer_at}
 use Rattle.bgp_conf.specs.FirstRefusal.{first_refusal}
 use Rattle.bgp_conf.specs.PeerPolicies.{action_by, export_action, exports_by}
 use Rattle.bgp_conf.specs.declared.command.Command.{Command}
-use Rattle.bgp_conf.specs.declared.command.Command.TheVariants.{AddPeer, RemovePeer, Enable, Disable, SetPolicy, DropPolicy, UseIn, UseOut, Network, NoNetwork, Reach, NoReach}
+use Rattle.bgp_conf.specs.declared.command.Command.TheVariants.{AddPeer, RemovePeer, Enable, Disable, SetPolicy, DropPolicy, UseIn, UseOut, Network, NoNetwork, Reach, NoReach, Filter, NoFilter, Assert, NoAssert}
 use Rattle.bgp_conf.specs.declared.command.PeerConf.{PeerConf}
 use Rattle.bgp_conf.specs.declared.conf.ConfiguredPeer.{ConfiguredPeer}
 use Rattle.bgp_fsm.specs.StateTests.{is_established}
@@ -152,6 +152,10 @@ marked_resolved conf conf2 links t (Reach prefix cost) is so marked =
     marked_reached conf conf2 links t marked (ap (λ (c : Configuration). c.own) is) (ap (λ (c : Configuration). c.policies) is) (λ s. ap (λ c. peer_at c s) is)
 marked_resolved conf conf2 links t (NoReach prefix) is so marked =
     marked_reached conf conf2 links t marked (ap (λ (c : Configuration). c.own) is) (ap (λ (c : Configuration). c.policies) is) (λ s. ap (λ c. peer_at c s) is)
+marked_resolved conf conf2 links t (Filter prefix asn) is so marked = absurd (cc)
+marked_resolved conf conf2 links t (NoFilter prefix asn) is so marked = absurd (cc)
+marked_resolved conf conf2 links t (Assert prefix max_len asn) is so marked = absurd (cc)
+marked_resolved conf conf2 links t (NoAssert prefix max_len asn) is so marked = absurd (cc)
 
 -- where a peer is removed: its session isn't Established
 pub marked_removed : (conf conf2 : Configuration) (links : List (ℕ × Linked)) (t : RoutingState) (slot : ℕ) → AreMarked conf links t → conf2.own ≡ conf.own → conf2.policies ≡ conf.policies → ((s : ℕ) → peer_at conf2 s ≡ cond (s == slot) None (peer_at conf s))

@@ -15,6 +15,7 @@ pub mod MergedPrefixes
 pub mod NamedPrefixes
 pub mod Naming
 pub mod NeededMemory
+pub mod ObeyedExceptions
 pub mod OneBest
 pub mod Owing
 pub mod Places

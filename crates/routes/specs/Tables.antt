@@ -9,6 +9,7 @@ use Rattle.bgp_conf.specs.Configuration.{Configuration, is_network, peer_at}
 use Rattle.bgp_fsm.specs.declared.session.Session.{Session}
 use Rattle.decision.specs.declared.candidate.Candidate.{Candidate}
 use Rattle.decision.specs.declared.candidate.TheConstants.{LOCAL_SLOT}
+use Rattle.local_exceptions.specs.ExceptionSets.{under}
 use Rattle.net_prefix.specs.declared.payload.Vrp.{Vrp}
 use Rattle.net_prefix.specs.declared.prefix.Prefix.{Prefix}
 use Rattle.rib_in.specs.LatestRoutes.{RouteTable, route_at}
@@ -46,6 +47,10 @@ configured_session t slot = if is_some (peer_at t.conf slot) then t.sessions slo
 -- the best route that is kept of a prefix
 abbrev pub best_at : List (Prefix × Candidate) → Prefix → Option Candidate
 best_at routes prefix = lookup (is_at (prefix_cmp prefix)) routes
+
+-- the payloads in force where these are loaded: those, under the local exceptions (RFC 8416 section 3)
+abbrev pub payloads_under : Configuration → List Vrp → List Vrp
+payloads_under conf loaded = under conf.exceptions loaded
 
 -- what the selection reads of these slots
 abbrev pub tables : Configuration → List Vrp → List (ℕ × Linked) → RouteTable → Tables

@@ -4,7 +4,7 @@ ghost use Rattle.std.specs.Option.{option_copied};
 ghost use Rattle.origin_valid.specs.Validity.{validity};
 ghost use Rattle.rib_in.specs.LatestRoutes.{route_at};
 ghost use Rattle.routes.specs.Offers.{IsOffer};
-ghost use Rattle.routes.specs.RoutesState.{tables_in};
+ghost use Rattle.routes.specs.RoutesState.{payloads_in_force, tables_in};
 
 use crate::candidates::remade_at;
 use crate::routes::Routes;
@@ -50,10 +50,11 @@ impl<A: Allocator + Clone, B: Book<A>> Routes<A, B> {
         }
     }
 
-    /// The state of a route of this origin AS to a prefix, in the payloads by which routes are judged.
+    /// The state of a route of this origin AS to a prefix, in the payloads in force.
     pub fn state(&self, prefix: Prefix, origin: Option<Asn>) -> Validity
-        ensures { result ≡ validity self.now.payloads prefix origin }
+        ensures { result ≡ validity (payloads_in_force self.now) prefix origin }
     {
-        self.payloads.state(&prefix, origin)
+        self.payloads
+            .state_under(self.conf.exceptions(), &prefix, origin)
     }
 }

@@ -1,12 +1,13 @@
 //! The candidates that routes make (RFC 4271 section 9.1).
-ghost use Rattle.std.specs.Prelude.{◌≡◌, ◌<◌, ◌≤◌, ◌+◌, List, length, true, MatchOption, Some};
+ghost use Rattle.std.specs.Prelude.{◌≡◌, ◌<◌, ◌≤◌, ◌+◌, List, filter, length, true, MatchOption, Some};
 ghost use Rattle.std.specs.Option.{IfSome, IsSome, is_some, option_map};
 ghost use Rattle.decision.specs.BookContents.{offer_at};
-ghost use Rattle.routes.specs.Tables.{tables};
+ghost use Rattle.routes.specs.Tables.{payloads_under, tables};
 ghost use Rattle.net_prefix.specs.declared.prefix.Prefix.{Prefix as ThePrefix};
 ghost use Rattle.rib_in.specs.LatestRoutes.{HasRoute, route_at};
 ghost use Rattle.routes.specs.Candidates.{IsMade, degree_by, degree_of, judged_at, local_candidate, network_at, origin_in, taken};
-ghost use Rattle.origin_valid.specs.Stretches.{changed_prefixes, stretches};
+ghost use Rattle.local_exceptions.specs.ExceptionSets.{behind, is_turned};
+ghost use Rattle.origin_valid.specs.Stretches.{changed_prefixes, prefixes_of, stretches};
 ghost use Rattle.prefix_trie.specs.CoverWalks.{covers};
 ghost use Rattle.routes.specs.Chosen.{AreDifferent, OncePerPrefix};
 ghost use Rattle.routes.specs.Marks.{AreMarked};
@@ -18,10 +19,12 @@ use arrayvec::ArrayVec;
 use bgp_attr::{Attrs, Origin, PeerKind, neighbor_as, origin_as};
 use bgp_conf::{Action, Conf, SeenRoute};
 use decision::{Book, Candidate, Change, LOCAL_SLOT, MAX_CANDIDATES};
-use net_prefix::{Asn, Prefix};
-use origin_valid::{PayloadTrie, Validity, affected};
+use local_exceptions::Filter;
+use net_prefix::{Asn, Prefix, Vrp};
+use origin_valid::{PayloadTrie, Validity, affected, affected_by};
 use rib_in::AdjIn;
 use std::alloc::Allocator;
+use std::collections::BTreeSet;
 use vrp_delta::Delta;
 
 /// The degree of preference of a route of an external peer for which no rule sets one.
@@ -109,11 +112,11 @@ pub fn judge_route<A: Allocator + Clone>(
     attrs: &Attrs<A>,
     candidate: Option<Candidate>,
 ) -> Option<Candidate>
-    ensures { result ≡ judged_at conf.now payloads.now attrs.now candidate prefix }
+    ensures { result ≡ judged_at conf.now (payloads_under conf.now payloads.now) attrs.now candidate prefix }
 {
     let candidate = candidate?;
     let origin = origin(conf.own(), attrs);
-    let validity = payloads.state(&prefix, origin);
+    let validity = payloads.state_under(conf.exceptions(), &prefix, origin);
     let route = SeenRoute {
         prefix,
         state: validity,
@@ -132,16 +135,16 @@ pub fn judge_route<A: Allocator + Clone>(
 
 /// A local network as a candidate, with the state of its route in the payloads in force.
 pub fn judge_network<A: Allocator + Clone>(
-    own: Asn,
+    conf: &Conf<A>,
     payloads: &PayloadTrie<A>,
     prefix: Prefix,
     attrs: &Attrs<A>,
 ) -> Candidate
-    ensures { result ≡ network_at own payloads.now attrs.now prefix }
+    ensures { result ≡ network_at conf.now.own (payloads_under conf.now payloads.now) attrs.now prefix }
 {
     Candidate {
-        validity: payloads.state(&prefix, origin(own, attrs)),
-        ..local_candidate(own)
+        validity: payloads.state_under(conf.exceptions(), &prefix, origin(conf.own(), attrs)),
+        ..local_candidate(conf.own())
     }
 }
 
@@ -189,7 +192,7 @@ pub fn choose_again<A: Allocator + Clone, B: Book<A>>(
     ensures sound { IsSound conf.now (offer_at routing.new.book) }
     ensures marked { AreMarked conf.now links.now.entries routing.new }
     ensures routes { routing.new.adj_in ≡ routing.old.adj_in }
-    ensures made { AreMadeAgain (tables conf.now payloads.now links.now.entries routing.old.adj_in) (offer_at routing.old.book) (offer_at routing.new.book) }
+    ensures made { AreMadeAgain (tables conf.now (payloads_under conf.now payloads.now) links.now.entries routing.old.adj_in) (offer_at routing.old.book) (offer_at routing.new.book) }
     ensures chosen { (known : List ThePrefix) × AreDifferent (HasRoute routing.old.adj_in) known × (routing.new.chosen ≤ routing.old.chosen + length known) }
     ensures rises { routing.old.chosen ≤ routing.new.chosen }
 {
@@ -216,7 +219,7 @@ pub fn choose_slot<A: Allocator + Clone, B: Book<A>>(
     ensures sound { IsSound conf.now (offer_at routing.new.book) }
     ensures marked { AreMarked conf.now links.now.entries routing.new }
     ensures routes { routing.new.adj_in ≡ routing.old.adj_in }
-    ensures made { AreMadeWhere (tables conf.now payloads.now links.now.entries routing.old.adj_in) (λ q. is_some (route_at routing.old.adj_in slot q)) (offer_at routing.old.book) (offer_at routing.new.book) }
+    ensures made { AreMadeWhere (tables conf.now (payloads_under conf.now payloads.now) links.now.entries routing.old.adj_in) (λ q. is_some (route_at routing.old.adj_in slot q)) (offer_at routing.old.book) (offer_at routing.new.book) }
     ensures chosen { OncePerPrefix (λ p. IsSome (route_at routing.old.adj_in slot p)) routing.old.chosen routing.new.chosen }
     ensures rises { routing.old.chosen ≤ routing.new.chosen }
 {
@@ -229,8 +232,8 @@ pub fn choose_slot<A: Allocator + Clone, B: Book<A>>(
     }
 }
 
-/// Makes the candidates again of the routes that a change of the payloads in force concerns, and chooses the best route of
-/// each of their prefixes again, once.
+/// Makes the candidates again of the routes that a change of the loaded payloads concerns, behind the local exceptions, and
+/// chooses the best route of each of their prefixes again, once.
 pub fn choose_touched<A: Allocator + Clone, B: Book<A>>(
     conf: &Conf<A>,
     payloads: &PayloadTrie<A>,
@@ -243,17 +246,40 @@ pub fn choose_touched<A: Allocator + Clone, B: Book<A>>(
     ensures sound { IsSound conf.now (offer_at routing.new.book) }
     ensures marked { AreMarked conf.now links.now.entries routing.new }
     ensures routes { routing.new.adj_in ≡ routing.old.adj_in }
-    ensures made { AreMadeWhere (tables conf.now payloads.now links.now.entries routing.old.adj_in) (is_within (stretches (changed_prefixes change.now))) (offer_at routing.old.book) (offer_at routing.new.book) }
-    ensures chosen { OncePerPrefix (λ p. (is_within (stretches (changed_prefixes change.now)) p ≡ true) × HasRoute routing.old.adj_in p) routing.old.chosen routing.new.chosen }
+    ensures made { AreMadeWhere (tables conf.now (payloads_under conf.now payloads.now) links.now.entries routing.old.adj_in) (is_within (stretches (changed_prefixes (behind conf.now.exceptions change.now)))) (offer_at routing.old.book) (offer_at routing.new.book) }
+    ensures chosen { OncePerPrefix (λ p. (is_within (stretches (changed_prefixes (behind conf.now.exceptions change.now))) p ≡ true) × HasRoute routing.old.adj_in p) routing.old.chosen routing.new.chosen }
     ensures rises { routing.old.chosen ≤ routing.new.chosen }
 {
-    for stretch in affected(change) {
+    for stretch in affected(change, conf.exceptions()) {
         choose_within(conf, payloads, links, routing, stretch);
     }
 }
 
-// The same of all routes to prefixes that one covers.
-fn choose_within<A: Allocator + Clone, B: Book<A>>(
+/// The same of the routes that those of the loaded payloads concern on which this filter alone decides.
+pub fn choose_turned<A: Allocator + Clone, B: Book<A>>(
+    conf: &Conf<A>,
+    payloads: &PayloadTrie<A>,
+    links: &Links<A>,
+    routing: &mut Routing<A, B>,
+    turned: Filter,
+    loaded: &BTreeSet<Vrp, A>,
+)
+    requires sound { IsSound conf.now (offer_at routing.old.book) }
+    requires marked { AreMarked conf.now links.now.entries routing.old }
+    ensures sound { IsSound conf.now (offer_at routing.new.book) }
+    ensures marked { AreMarked conf.now links.now.entries routing.new }
+    ensures routes { routing.new.adj_in ≡ routing.old.adj_in }
+    ensures made { AreMadeWhere (tables conf.now (payloads_under conf.now payloads.now) links.now.entries routing.old.adj_in) (is_within (stretches (prefixes_of (filter (is_turned conf.now.exceptions turned) loaded.now.keys)))) (offer_at routing.old.book) (offer_at routing.new.book) }
+    ensures chosen { OncePerPrefix (λ p. (is_within (stretches (prefixes_of (filter (is_turned conf.now.exceptions turned) loaded.now.keys))) p ≡ true) × HasRoute routing.old.adj_in p) routing.old.chosen routing.new.chosen }
+    ensures rises { routing.old.chosen ≤ routing.new.chosen }
+{
+    for stretch in affected_by(turned, loaded, conf.exceptions()) {
+        choose_within(conf, payloads, links, routing, stretch);
+    }
+}
+
+/// The same of all routes to prefixes that one covers.
+pub fn choose_within<A: Allocator + Clone, B: Book<A>>(
     conf: &Conf<A>,
     payloads: &PayloadTrie<A>,
     links: &Links<A>,
@@ -265,7 +291,7 @@ fn choose_within<A: Allocator + Clone, B: Book<A>>(
     ensures sound { IsSound conf.now (offer_at routing.new.book) }
     ensures marked { AreMarked conf.now links.now.entries routing.new }
     ensures routes { routing.new.adj_in ≡ routing.old.adj_in }
-    ensures made { AreMadeWhere (tables conf.now payloads.now links.now.entries routing.old.adj_in) (covers stretch) (offer_at routing.old.book) (offer_at routing.new.book) }
+    ensures made { AreMadeWhere (tables conf.now (payloads_under conf.now payloads.now) links.now.entries routing.old.adj_in) (covers stretch) (offer_at routing.old.book) (offer_at routing.new.book) }
     ensures chosen { OncePerPrefix (λ p. (covers stretch p ≡ true) × HasRoute routing.old.adj_in p) routing.old.chosen routing.new.chosen }
     ensures rises { routing.old.chosen ≤ routing.new.chosen }
 {
@@ -329,7 +355,7 @@ fn choose_at<A: Allocator + Clone, B: Book<A>>(
     ensures sound { IsSound conf.now (offer_at routing.new.book) }
     ensures marked { AreMarked conf.now links.now.entries routing.new }
     ensures routes { routing.new.adj_in ≡ routing.old.adj_in }
-    ensures made { AreMadeAt (tables conf.now payloads.now links.now.entries routing.old.adj_in) prefix (offer_at routing.old.book) (offer_at routing.new.book) }
+    ensures made { AreMadeAt (tables conf.now (payloads_under conf.now payloads.now) links.now.entries routing.old.adj_in) prefix (offer_at routing.old.book) (offer_at routing.new.book) }
     ensures chosen { routing.new.chosen ≤ routing.old.chosen + 1 }
     ensures rises { routing.old.chosen ≤ routing.new.chosen }
 {
@@ -345,7 +371,7 @@ fn remade<A: Allocator + Clone>(
     adj_in: &AdjIn<A>,
     prefix: Prefix,
 ) -> Changes
-    ensures { AreRemade (tables conf.now payloads.now links.now.entries adj_in.now) prefix result.items }
+    ensures { AreRemade (tables conf.now (payloads_under conf.now payloads.now) links.now.entries adj_in.now) prefix result.items }
 {
     let mut changes = Changes::new();
     for slot in 0..LOCAL_SLOT + 1 {
@@ -366,7 +392,7 @@ pub fn remade_at<A: Allocator + Clone>(
     prefix: Prefix,
 ) -> Option<Change>
     requires { slot ≤ 64 }
-    ensures { MatchOption result (LacksRoute (tables conf.now payloads.now links.now.entries adj_in.now) slot prefix) (IsRemade (tables conf.now payloads.now links.now.entries adj_in.now) slot prefix) }
+    ensures { MatchOption result (LacksRoute (tables conf.now (payloads_under conf.now payloads.now) links.now.entries adj_in.now) slot prefix) (IsRemade (tables conf.now (payloads_under conf.now payloads.now) links.now.entries adj_in.now) slot prefix) }
 {
     if slot == LOCAL_SLOT {
         return remade_network(conf, payloads, adj_in, prefix);
@@ -381,12 +407,12 @@ fn remade_network<A: Allocator + Clone>(
     adj_in: &AdjIn<A>,
     prefix: Prefix,
 ) -> Option<Change>
-    ensures { result ≡ option_map (λ attrs. record { slot = 64; candidate = Some (network_at conf.now.own payloads.now attrs prefix) }) (route_at adj_in.now 64 prefix) }
+    ensures { result ≡ option_map (λ attrs. record { slot = 64; candidate = Some (network_at conf.now.own (payloads_under conf.now payloads.now) attrs prefix) }) (route_at adj_in.now 64 prefix) }
 {
     let attrs = adj_in.get(LOCAL_SLOT, prefix)?;
     Some(Change {
         slot: LOCAL_SLOT,
-        candidate: Some(judge_network(conf.own(), payloads, prefix, attrs)),
+        candidate: Some(judge_network(conf, payloads, prefix, attrs)),
     })
 }
 
@@ -400,7 +426,7 @@ fn remade_route<A: Allocator + Clone>(
     prefix: Prefix,
 ) -> Option<Change>
     requires { slot < 64 }
-    ensures { MatchOption result (LacksRoute (tables conf.now payloads.now links.now.entries adj_in.now) slot prefix) (IsRemade (tables conf.now payloads.now links.now.entries adj_in.now) slot prefix) }
+    ensures { MatchOption result (LacksRoute (tables conf.now (payloads_under conf.now payloads.now) links.now.entries adj_in.now) slot prefix) (IsRemade (tables conf.now (payloads_under conf.now payloads.now) links.now.entries adj_in.now) slot prefix) }
 {
     let link = links.get(&slot)?;
     let attrs = adj_in.get(slot, prefix)?;

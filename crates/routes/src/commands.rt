@@ -202,7 +202,7 @@ impl<A: Allocator + Clone, B: Book<A>> Routes<A, B> {
         ensures payloads { self.new.payloads ≡ self.old.payloads }
     {
         let attrs = Rc::new(alloc.clone()?, Attrs::originated(alloc.clone()?))?;
-        let network = judge_network(self.conf.own(), &self.payloads, prefix, &attrs);
+        let network = judge_network(&self.conf, &self.payloads, prefix, &attrs);
         self.routing.announce(
             &self.conf,
             &self.links,

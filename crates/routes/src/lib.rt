@@ -1,19 +1,21 @@
 //! Routes: what came from the peers, what the selection makes of it, and what each peer is owed of it.
 //!
-//! **Parts.** `Routes` is the one type that others call. It has the configuration, the payloads by which routes are judged, a
-//! `Link` for each slot (its session beside what its peer was sent), `Routing` (Adj-RIB-In with Loc-RIB, and of each prefix
-//! what waits for each Established peer: a withdrawal, an announcement or nothing; announcements are listed by the octets that
-//! are written, so that those of one UPDATE are found soon) and what was announced lately, for peers to share. Its value
-//! (`RoutesState`) has all of these but what waits: that is where what a peer holds and its export differ, or the peer has
-//! asked for what it holds again (RFC 2918).
+//! **Parts.** `Routes` is the one type that others call. It has the configuration, the payloads that are loaded, a `Link` for
+//! each slot (its session beside what its peer was sent), `Routing` (Adj-RIB-In with Loc-RIB, and of each prefix what waits for
+//! each Established peer: a withdrawal, an announcement or nothing; announcements are listed by the octets that are written, so
+//! that those of one UPDATE are found soon) and what was announced lately, for peers to share. Its value (`RoutesState`) has
+//! all of these but what waits: that is where what a peer holds and its export differ, or the peer has asked for what it holds
+//! again (RFC 2918). Routes are judged by the payloads in force: what the configuration's local exceptions make of the loaded
+//! ones (RFC 8416 section 3), which is kept nowhere.
 //!
 //! **The way of an event.** A session's input moves its slot, and where it enters or leaves Established, or its peer asks
 //! for all routes again, the routes follow (`input`). A message at the front of a slot's rest is an input to the session,
 //! and an UPDATE among them brings and withdraws routes (`judge_front`). A command changes the configuration and what
 //! depends on it (`originate`, `set_policy` and the like); payloads that came or went judge again the routes that they
-//! concern (`payloads_changed`). Whatever changes, it goes one way: the candidates of the touched prefixes are made again,
-//! the best route of each is chosen once at most, and for each Established peer the prefix is marked. What is marked is
-//! asked for in order (`withdrawal_after`, `announcement_after`) and told (`tell_withdrawals`, `tell_announcements`).
+//! concern (`payloads_changed`), and so do local exceptions with those that come into force or go (`filter`, `assert`).
+//! Whatever changes, it goes one way: the candidates of the touched prefixes are made again, the best route of each is chosen
+//! once at most, and for each Established peer the prefix is marked. What is marked is asked for in order
+//! (`withdrawal_after`, `announcement_after`) and told (`tell_withdrawals`, `tell_announcements`).
 //!
 //! **What holds when.** Between calls: no two peers have one address, each candidate has its own peer's, and of each prefix
 //! there waits for each slot just what its peer is owed, and an announcement is listed by its octets (the invariant of
@@ -22,14 +24,15 @@
 //! back.
 //!
 //! Nothing here speaks of a run or of a session's history: the speaker above does. To read first: the definitions
-//! `RoutesState` and `Marks`, then `routes`, `sessions`, `commands`, `queue` (the calls), `routing` (the tables and their
-//! marks), `candidates` (what makes a route a candidate), `message`, `updates`, `exports`, `packing` (which prefixes one
-//! UPDATE names), `told`, `waiting`, `waiting_after`.
+//! `RoutesState` and `Marks`, then `routes`, `sessions`, `commands`, `exceptions`, `queue` (the calls), `routing` (the tables
+//! and their marks), `candidates` (what makes a route a candidate), `message`, `updates`, `exports`, `packing` (which prefixes
+//! one UPDATE names), `told`, `waiting`, `waiting_after`.
 #![tactic(auto)]
 
 mod asked;
 mod candidates;
 mod commands;
+mod exceptions;
 mod exports;
 mod link;
 mod message;

@@ -15,6 +15,7 @@ ghost use Rattle.routes.specs.Heard.{AreOf, IsHeard, KeepsUnnamed, TakesMemoryAt
 ghost use Rattle.routes.specs.Chosen.{named_if};
 ghost use Rattle.routes.specs.RoutingState.{StayWhole};
 ghost use Rattle.routes.specs.Marks.{AreMarked};
+ghost use Rattle.routes.specs.Tables.{payloads_under};
 ghost use Rattle.routes.specs.Offers.{IsSound, KeepsHeard};
 
 use crate::exports::Octets;
@@ -62,7 +63,7 @@ pub fn take_front<'r, A: Allocator + Clone, B: Book<A>>(
         → IsHeard sender.slot (option_and_then (update_heard link.now.peer.session.state terms) (meaning link.now.peer.rest)) routing.old.adj_in routing.new.adj_in) }
     ensures unnamed { OnOk result ((terms : Terms) → AreOf terms standard
         → KeepsUnnamed sender.slot (option_and_then (update_heard link.now.peer.session.state terms) (meaning link.now.peer.rest)) routing.old.book routing.new.book) }
-    ensures kept { OnOk result (KeepsHeard conf.now payloads.now sender link.now.peer.session.state routing.old routing.new) }
+    ensures kept { OnOk result (KeepsHeard conf.now (payloads_under conf.now payloads.now) sender link.now.peer.session.state routing.old routing.new) }
     ensures refused { OnErr result (StayWhole routing.old.adj_in routing.new.adj_in routing.old.book routing.new.book routing.old.chosen routing.new.chosen) }
     ensures memory { OnErr result (TakesMemoryAt standard.kind link.now) }
     ensures chosen { OnOk result ((terms : Terms) → AreOf terms standard
@@ -105,7 +106,7 @@ fn judge<'r, A: Allocator + Clone, B: Book<A>>(
         → IsHeard sender.slot (update_heard state terms (WholeMessage frame.entry.kind frame.entry.body.now)) routing.old.adj_in routing.new.adj_in) }
     ensures unnamed { OnOk result ((terms : Terms) → AreOf terms standard
         → KeepsUnnamed sender.slot (update_heard state terms (WholeMessage frame.entry.kind frame.entry.body.now)) routing.old.book routing.new.book) }
-    ensures kept { OnOk result (KeepsHeard conf.now payloads.now sender state routing.old routing.new) }
+    ensures kept { OnOk result (KeepsHeard conf.now (payloads_under conf.now payloads.now) sender state routing.old routing.new) }
     ensures refused { OnErr result (StayWhole routing.old.adj_in routing.new.adj_in routing.old.book routing.new.book routing.old.chosen routing.new.chosen) }
     ensures memory { OnErr result ((state ≡ Established) × (frame.entry.kind ≡ UpdateMessage) × NeedsMemory standard.kind frame.entry.body.now) }
     ensures chosen { OnOk result ((terms : Terms) → AreOf terms standard
@@ -164,7 +165,7 @@ fn judge_update<'r, A: Allocator + Clone, B: Book<A>>(
     ensures input { IfOk result (λ found. found ≡ update_input (update_fault standard.kind body.now)) }
     ensures routes { OnOk result (IsHeard sender.slot (sound_update standard.kind body.now (update_fault standard.kind body.now)) routing.old.adj_in routing.new.adj_in) }
     ensures unnamed { OnOk result (KeepsUnnamed sender.slot (sound_update standard.kind body.now (update_fault standard.kind body.now)) routing.old.book routing.new.book) }
-    ensures kept { OnOk result (KeepsHeard conf.now payloads.now sender Established routing.old routing.new) }
+    ensures kept { OnOk result (KeepsHeard conf.now (payloads_under conf.now payloads.now) sender Established routing.old routing.new) }
     ensures refused { OnErr result (StayWhole routing.old.adj_in routing.new.adj_in routing.old.book routing.new.book routing.old.chosen routing.new.chosen) }
     ensures memory { OnErr result (NeedsMemory standard.kind body.now) }
     ensures chosen { OnOk result (routing.new.chosen ≤ routing.old.chosen + named_if (sound_update standard.kind body.now (update_fault standard.kind body.now))) }

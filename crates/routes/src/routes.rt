@@ -13,6 +13,7 @@ ghost use Rattle.net_prefix.specs.declared.prefix.Prefix.{Prefix as ThePrefix};
 ghost use Rattle.prefix_trie.specs.TrieWalks.{all_after};
 ghost use Rattle.rib_in.specs.LatestRoutes.{HasRoute, route_at, routes_of};
 ghost use Rattle.rib_out.specs.Held.{is_prefix};
+ghost use Rattle.local_exceptions.specs.ExceptionSets.{behind};
 ghost use Rattle.origin_valid.specs.Stretches.{changed_prefixes, stretches};
 ghost use Rattle.routes.specs.Chosen.{OncePerPrefix};
 ghost use Rattle.routes.specs.Export.{IsAccepted, export_in, export_peer_of};
@@ -44,7 +45,7 @@ use vrp_delta::Delta;
 #[derive(Drop)]
 pub struct Routes<A: Allocator + Clone, B: Book<A>> {
     pub(crate) conf: Conf<A>,
-    // The payloads by which the routes are judged.
+    // The payloads that are loaded. Under the local exceptions they are those by which routes are judged.
     pub(crate) payloads: PayloadTrie<A>,
     pub(crate) links: Links<A>,
     pub(crate) routing: Routing<A, B>,
@@ -198,7 +199,7 @@ impl<A: Allocator + Clone, B: Book<A>> Routes<A, B> {
         export(&self.conf, self.routing.ribs(), peer, prefix, octets)
     }
 
-    /// The payloads by which routes are judged, for what follows a cache. `payloads_changed` then has the change.
+    /// The payloads that are loaded, for what follows a cache. `payloads_changed` then has the change.
     pub fn payloads_mut(&mut self) -> &mut PayloadTrie<A>
         ensures* writes_back { sem 𝓛 (lends_payloads A.row B.row A.Allocator A.Clone B.Book self.entry result) }
         ensures payloads { result.now ≡ self.old.payloads }
@@ -206,11 +207,11 @@ impl<A: Allocator + Clone, B: Book<A>> Routes<A, B> {
         &mut self.payloads
     }
 
-    /// Makes the candidates again of the routes that a change of the payloads concerns, and chooses the best route of each
-    /// of their prefixes again, once.
+    /// Makes the candidates again of the routes that a change of the loaded payloads concerns, behind the local exceptions, and
+    /// chooses the best route of each of their prefixes again, once.
     pub fn payloads_changed(&mut self, change: &Delta<A>)
-        ensures made { AreMadeWhere (tables_in self.new) (is_within (stretches (changed_prefixes change.now))) (offer_at self.old.book) (offer_at self.new.book) }
-        ensures chosen { OncePerPrefix (λ p. (is_within (stretches (changed_prefixes change.now)) p ≡ true) × HasRoute self.old.adj_in p) self.old.chosen self.new.chosen }
+        ensures made { AreMadeWhere (tables_in self.new) (is_within (stretches (changed_prefixes (behind self.old.conf.exceptions change.now)))) (offer_at self.old.book) (offer_at self.new.book) }
+        ensures chosen { OncePerPrefix (λ p. (is_within (stretches (changed_prefixes (behind self.old.conf.exceptions change.now))) p ≡ true) × HasRoute self.old.adj_in p) self.old.chosen self.new.chosen }
         ensures rest { self.new ≡ record self.old { book = self.new.book; chosen = self.new.chosen } }
         ensures payloads { self.new.payloads ≡ self.old.payloads }
         ensures rises { self.old.chosen ≤ self.new.chosen }

@@ -12,6 +12,7 @@ ghost use Rattle.routes.specs.Candidates.{judged_at};
 ghost use Rattle.routes.specs.Chosen.{named_in, OncePerPrefix};
 ghost use Rattle.routes.specs.Marks.{AreMarked};
 ghost use Rattle.routes.specs.RoutingState.{RoutingState, StayWhole};
+ghost use Rattle.routes.specs.Tables.{payloads_under};
 ghost use Rattle.routes.specs.Offers.{IsSound, KeepsHeard};
 
 use crate::candidates::{candidate, judge_route};
@@ -68,7 +69,7 @@ pub fn take_update<A: Allocator + Clone, B: Book<A>>(
     ensures marked { AreMarked conf.now links.now.entries routing.new }
     ensures routes { OnOk result ((s : ℕ) (prefix : ThePrefix) → route_at routing.new.adj_in s prefix ≡ (if s == sender.slot then word_of update.entry prefix (route_at routing.old.adj_in s prefix) else route_at routing.old.adj_in s prefix)) }
     ensures unnamed { OnOk result (KeepsUnnamed sender.slot (Some update.entry) routing.old.book routing.new.book) }
-    ensures kept { OnOk result (KeepsHeard conf.now payloads.now sender Established routing.old routing.new) }
+    ensures kept { OnOk result (KeepsHeard conf.now (payloads_under conf.now payloads.now) sender Established routing.old routing.new) }
     ensures refused { OnErr result (StayWhole routing.old.adj_in routing.new.adj_in routing.old.book routing.new.book routing.old.chosen routing.new.chosen) }
     ensures memory { OnErr result (update.entry.announced ≢ []) }
     ensures chosen { routing.new.chosen ≤ routing.old.chosen + named_in update.entry }
@@ -246,11 +247,11 @@ fn announce_each<A: Allocator + Clone, B: Book<A>>(
 )
     requires named { IfSome candidate (λ c. c.slot ≡ slot) }
     requires ready { AreReady slot attrs.now routing.old.adj_in named.items }
-    requires apart { (prefix : ThePrefix) → AreApart (λ s. if slot == s then judged_at conf.now payloads.now attrs.now candidate prefix else offer_at routing.old.book s prefix) }
+    requires apart { (prefix : ThePrefix) → AreApart (λ s. if slot == s then judged_at conf.now (payloads_under conf.now payloads.now) attrs.now candidate prefix else offer_at routing.old.book s prefix) }
     requires marked { AreMarked conf.now links.now.entries routing.old }
     ensures marked { AreMarked conf.now links.now.entries routing.new }
     ensures routes { (s : ℕ) (prefix : ThePrefix) → route_at routing.new.adj_in s prefix ≡ (if s == slot && is_among prefix (prefixes_of named.items) then Some attrs.now else route_at routing.old.adj_in s prefix) }
-    ensures offers { (s : ℕ) (prefix : ThePrefix) → offer_at routing.new.book s prefix ≡ (if s == slot && is_among prefix (prefixes_of named.items) then judged_at conf.now payloads.now attrs.now candidate prefix else offer_at routing.old.book s prefix) }
+    ensures offers { (s : ℕ) (prefix : ThePrefix) → offer_at routing.new.book s prefix ≡ (if s == slot && is_among prefix (prefixes_of named.items) then judged_at conf.now (payloads_under conf.now payloads.now) attrs.now candidate prefix else offer_at routing.old.book s prefix) }
     ensures chosen { OncePerPrefix (λ p. is_among p (prefixes_of named.items) ≡ true) routing.old.chosen routing.new.chosen }
     ensures rises { routing.old.chosen ≤ routing.new.chosen }
 {
@@ -274,13 +275,13 @@ fn announce<A: Allocator + Clone, B: Book<A>>(
 )
     requires named { IfSome candidate (λ c. c.slot ≡ slot) }
     requires ready { IsReady slot attrs.now routing.old.adj_in announced }
-    requires apart { AreApart (λ s. if slot == s then judged_at conf.now payloads.now attrs.now candidate announced.prefix else offer_at routing.old.book s announced.prefix) }
+    requires apart { AreApart (λ s. if slot == s then judged_at conf.now (payloads_under conf.now payloads.now) attrs.now candidate announced.prefix else offer_at routing.old.book s announced.prefix) }
     requires marked { AreMarked conf.now links.now.entries routing.old }
     ensures marked { AreMarked conf.now links.now.entries routing.new }
     ensures routes { (s : ℕ) (p : ThePrefix) → route_at routing.new.adj_in s p ≡ (if is_route slot announced.prefix s p then Some attrs.now else route_at routing.old.adj_in s p) }
-    ensures offers { (s : ℕ) (p : ThePrefix) → offer_at routing.new.book s p ≡ (if is_route slot announced.prefix s p then judged_at conf.now payloads.now attrs.now candidate announced.prefix else offer_at routing.old.book s p) }
+    ensures offers { (s : ℕ) (p : ThePrefix) → offer_at routing.new.book s p ≡ (if is_route slot announced.prefix s p then judged_at conf.now (payloads_under conf.now payloads.now) attrs.now candidate announced.prefix else offer_at routing.old.book s p) }
     ensures chosen { routing.new.chosen ≤ routing.old.chosen + 1 }
-    ensures same { offer_at routing.old.book slot announced.prefix ≡ judged_at conf.now payloads.now attrs.now candidate announced.prefix → routing.new.chosen ≡ routing.old.chosen }
+    ensures same { offer_at routing.old.book slot announced.prefix ≡ judged_at conf.now (payloads_under conf.now payloads.now) attrs.now candidate announced.prefix → routing.new.chosen ≡ routing.old.chosen }
     ensures rises { routing.old.chosen ≤ routing.new.chosen }
 {
     let Announced { prefix, replacing } = announced;

@@ -3,7 +3,7 @@ use Rattle.decision.specs.BookContents.{offer_at}
 use Rattle.rib_in.specs.LatestRoutes.{HasRoute}
 use Rattle.routes.specs.Marks.{AreMarked}
 use Rattle.routes.specs.Offers.{IsSound}
-use Rattle.routes.specs.Tables.{tables}
+use Rattle.routes.specs.Tables.{payloads_under, tables}
 use Rattle.routes.proofs.Counting.{Counts}
 use Rattle.routes.proofs.RemadeOffers.{RemadeUpTo}
 use Rattle.routes.proofs.Places.{left_above}
@@ -11,7 +11,7 @@ use Rattle.routes.proofs.candidates.choose_again.Given as goal
 
 abbrev pub invariant-loop-prefix : goal.invariant-loop-prefix
 invariant-loop-prefix g l =
-    RemadeUpTo (tables l.fn.conf l.fn.payloads l.fn.links.entries l.fn.routing.adj_in) (λ q. true) (offer_at l.fn.routing.book) l.after (offer_at l.routing.book)
+    RemadeUpTo (tables l.fn.conf (payloads_under l.fn.conf l.fn.payloads) l.fn.links.entries l.fn.routing.adj_in) (λ q. true) (offer_at l.fn.routing.book) l.after (offer_at l.routing.book)
     × (l.routing.adj_in ≡ l.fn.routing.adj_in)
     × IsSound l.fn.conf (offer_at l.routing.book)
     × AreMarked l.fn.conf l.fn.links.entries l.routing

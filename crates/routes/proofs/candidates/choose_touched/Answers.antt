@@ -3,14 +3,15 @@ use Rattle.decision.specs.BookContents.{offer_at}
 use Rattle.rib_in.specs.LatestRoutes.{HasRoute}
 use Rattle.routes.specs.Chosen.{OncePerPrefix}
 use Rattle.routes.specs.Offers.{AreMadeWhere, is_within}
-use Rattle.routes.specs.Tables.{tables}
+use Rattle.routes.specs.Tables.{payloads_under, tables}
 use Rattle.routes.proofs.RemadeOffers.{made_none}
 use Rattle.routes.proofs.TouchedStretches.{Touches-all, Touches-more, Touches-none}
 use Rattle.routes.proofs.candidates.choose_touched.Goals as goal
 
 pub loop-stretch-init : goal.loop-stretch-init
 loop-stretch-init g c =
-    let whole = c.into_iter-stretch-iterator.ensures.into_iter_gives ∙ c.affected-stretch-items.ensures in
+    let touched = rw c.exceptions.ensures at c.affected-stretch-items.ensures in
+    let whole = c.into_iter-stretch-iterator.ensures.into_iter_gives ∙ touched in
     (Touches-none _ _ _ _ _ _ whole (made_none _ _), refl, c.requires.sound, c.requires.marked)
 
 pub loop-stretch-preserved : goal.loop-stretch-preserved
@@ -27,7 +28,7 @@ loop-stretch-preserved g c =
 pub returns-clause-made : goal.returns-clause-made
 returns-clause-made g c =
     let h = c.loop-stretch.invariant in
-    subst (λ seen. AreMadeWhere (tables c.args.conf.now c.args.payloads.now c.args.links.now.entries c.args.routing.now.adj_in) (is_within seen) (offer_at c.args.routing.now.book) (offer_at c.loop-stretch.routing.book))
+    subst (λ seen. AreMadeWhere (tables c.args.conf.now (payloads_under c.args.conf.now c.args.payloads.now) c.args.links.now.entries c.args.routing.now.adj_in) (is_within seen) (offer_at c.args.routing.now.book) (offer_at c.loop-stretch.routing.book))
     (Touches-all _ _ _ _ _ _ _ _ _ h.0 c.in-None.ensures.steps.0)
     h.0.made
 

@@ -5,7 +5,7 @@ use Rattle.prefix_trie.specs.CoverWalks.{covers}
 use Rattle.rib_in.specs.LatestRoutes.{HasRoute}
 use Rattle.routes.specs.Marks.{AreMarked}
 use Rattle.routes.specs.Offers.{IsSound}
-use Rattle.routes.specs.Tables.{tables}
+use Rattle.routes.specs.Tables.{payloads_under, tables}
 use Rattle.routes.proofs.Counting.{Counts}
 use Rattle.routes.proofs.RemadeOffers.{RemadeUpTo}
 use Rattle.routes.proofs.Places.{left_above}
@@ -13,7 +13,7 @@ use Rattle.routes.proofs.candidates.choose_within.Given as goal
 
 abbrev pub invariant-loop-prefix : goal.invariant-loop-prefix
 invariant-loop-prefix g l =
-    RemadeUpTo (tables l.fn.conf l.fn.payloads l.fn.links.entries l.fn.routing.adj_in) (covers l.fn.stretch) (offer_at l.fn.routing.book) l.after (offer_at l.routing.book)
+    RemadeUpTo (tables l.fn.conf (payloads_under l.fn.conf l.fn.payloads) l.fn.links.entries l.fn.routing.adj_in) (covers l.fn.stretch) (offer_at l.fn.routing.book) l.after (offer_at l.routing.book)
     × (l.routing.adj_in ≡ l.fn.routing.adj_in)
     × IsSound l.fn.conf (offer_at l.routing.book)
     × AreMarked l.fn.conf l.fn.links.entries l.routing

@@ -2,13 +2,13 @@ use Rattle.std.proofs.Common.{◌≡◌, Some, refl, sym, ap, subst}
 use Rattle.std.specs.Option.{option_map}
 use Rattle.routes.specs.Candidates.{judged_at}
 use Rattle.routes.specs.Offers.{IsOffer}
-use Rattle.routes.specs.Tables.{tables, session_at}
+use Rattle.routes.specs.Tables.{payloads_under, session_at, tables}
 use Rattle.routes.proofs.CandidateLists.{candidate_made}
 use Rattle.routes.proofs.candidates.remade_route.Goals as goal
 
 pub returns : goal.returns
 returns g c =
-    let t = tables c.args.conf.now c.args.payloads.now c.args.links.now.entries c.args.adj_in.now in
+    let t = tables c.args.conf.now (payloads_under c.args.conf.now c.args.payloads.now) c.args.links.now.entries c.args.adj_in.now in
     let judged : c.judge_route.result ≡ judged_at t.conf t.payloads c.in_ok-attrs.attrs.now c.candidate-candidate.result c.args.prefix = c.judge_route.ensures in
     let told : c.identifier.result ≡ c.in_ok-link.link.now.peer.session.identifier = rw (← c.link.view_is) c.identifier.ensures in
     let found : session_at c.args.links.now.entries c.args.slot ≡ Some c.in_ok-link.link.now.peer.session = ap (option_map (λ l. l.peer.session)) (sym c.in_ok-link.ensures.value) in

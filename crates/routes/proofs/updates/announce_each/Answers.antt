@@ -6,6 +6,7 @@ use Rattle.net_prefix.specs.declared.prefix.Prefix.{Prefix}
 use Rattle.routes.specs.Brought.{AreReady, NamedPrefix, prefixes_of}
 use Rattle.routes.specs.Candidates.{judged_at}
 use Rattle.routes.specs.Updates.{is_among}
+use Rattle.routes.specs.Tables.{payloads_under}
 use Rattle.routes.proofs.BroughtPrefixes.{prefixes_push, ready_still}
 use Rattle.routes.proofs.Counting.{CountsNamed, named_each, named_more, named_none}
 use Rattle.routes.proofs.HeardOffers.{apart_still, some_set}
@@ -38,8 +39,8 @@ announce-requires-clause-ready g c =
 pub announce-requires-clause-apart : goal.announce-requires-clause-apart
 announce-requires-clause-apart g c =
     let h = c.loop-announced.invariant in
-    apart_still c.args.slot (judged_at c.args.conf.now c.args.payloads.now c.args.attrs.now c.args.candidate) (offer_at c.args.routing.now.book) (offer_at c.loop-announced.routing.book)
-    (some_set c.args.slot (λ p. is_among p (prefixes_of c.loop-announced.yielded) && true) (judged_at c.args.conf.now c.args.payloads.now c.args.attrs.now c.args.candidate) (offer_at c.args.routing.now.book) (offer_at c.loop-announced.routing.book) h.1.set)
+    apart_still c.args.slot (judged_at c.args.conf.now (payloads_under c.args.conf.now c.args.payloads.now) c.args.attrs.now c.args.candidate) (offer_at c.args.routing.now.book) (offer_at c.loop-announced.routing.book)
+    (some_set c.args.slot (λ p. is_among p (prefixes_of c.loop-announced.yielded) && true) (judged_at c.args.conf.now (payloads_under c.args.conf.now c.args.payloads.now) c.args.attrs.now c.args.candidate) (offer_at c.args.routing.now.book) (offer_at c.loop-announced.routing.book) h.1.set)
     c.in-Some.announced.prefix (c.requires.apart c.in-Some.announced.prefix)
 
 pub loop-announced-preserved : goal.loop-announced-preserved
@@ -58,7 +59,7 @@ loop-announced-preserved g c =
     let short = ap length steps in (
       subst (λ ps. Sets c.args.slot (λ p. true) (prefixes_of c.args.named.items) ps (prefixes_of (into_iter_items c.next.new.self)) (λ p. Some c.args.attrs.now) (route_at c.args.routing.now.adj_in) (route_at c.announce.new.routing.adj_in)) (sym seen)
           (Sets-more _ _ _ _ _ _ _ _ _ _ _ h.0 next refl c.announce.ensures.routes),
-      subst (λ ps. Sets c.args.slot (λ p. true) (prefixes_of c.args.named.items) ps (prefixes_of (into_iter_items c.next.new.self)) (judged_at c.args.conf.now c.args.payloads.now c.args.attrs.now c.args.candidate) (offer_at c.args.routing.now.book) (offer_at c.announce.new.routing.book)) (sym seen)
+      subst (λ ps. Sets c.args.slot (λ p. true) (prefixes_of c.args.named.items) ps (prefixes_of (into_iter_items c.next.new.self)) (judged_at c.args.conf.now (payloads_under c.args.conf.now c.args.payloads.now) c.args.attrs.now c.args.candidate) (offer_at c.args.routing.now.book) (offer_at c.announce.new.routing.book)) (sym seen)
           (Sets-more _ _ _ _ _ _ _ _ _ _ _ h.1 next refl c.announce.ensures.offers),
       ready.1,
       c.announce.ensures.marked,

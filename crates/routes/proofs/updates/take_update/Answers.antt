@@ -7,13 +7,14 @@ use Rattle.routes.specs.Brought.{AreReady}
 use Rattle.routes.specs.Candidates.{judged_at}
 use Rattle.routes.specs.Chosen.{OncePerPrefix}
 use Rattle.routes.specs.Updates.{is_among, is_only_withdrawn}
+use Rattle.routes.specs.Tables.{payloads_under}
 use Rattle.routes.proofs.BroughtPrefixes.{offers_left, offers_taken, ready_left, routes_taken}
 use Rattle.routes.proofs.HeardOffers.{apart_heard, kept_taken, kept_withdrawn, left_of, sound_heard, words_taken}
 use Rattle.routes.proofs.NamedPrefixes.{most_named, most_withdrawn}
 use Rattle.routes.proofs.updates.take_update.Goals as goal
 
 pub returns-then-is_none-clause-kept : goal.returns-then-is_none-clause-kept
-returns-then-is_none-clause-kept g c = kept_withdrawn c.args.conf.now c.args.payloads.now c.args.sender _ c.args.routing.now c.withdraw_each.new.routing c.withdraw_each.ensures.routes c.withdraw_each.ensures.offers
+returns-then-is_none-clause-kept g c = kept_withdrawn c.args.conf.now (payloads_under c.args.conf.now c.args.payloads.now) c.args.sender _ c.args.routing.now c.withdraw_each.new.routing c.withdraw_each.ensures.routes c.withdraw_each.ensures.offers
 
 pub returns-then-is_none-clause-chosen : goal.returns-then-is_none-clause-chosen
 returns-then-is_none-clause-chosen g c = most_withdrawn c.args.update _ _ (rw (c.withdrawn-withdrawn.ensures, c.announced-announced.ensures) at c.withdraw_each.ensures.chosen)
@@ -32,8 +33,8 @@ announce_each-requires-clause-apart g c =
     let gone = rw (c.withdrawn-withdrawn.ensures, c.announced-announced.ensures) at c.withdraw_each-2.ensures.offers in
     let only = is_only_withdrawn c.args.update.withdrawn c.args.update.announced in
     let went = offers_left c.args.sender.slot c.in_ok-attrs.attrs.value c.args.update.announced only c.bring_all.new.named.items c.args.routing.now c.bring_all.new.routing c.withdraw_each-2.new.routing brought gone in
-    subst (λ (a : PathAttributes). (prefix : Prefix) → AreApart (λ s. cond (c.args.sender.slot == s) (judged_at c.args.conf.now c.args.payloads.now a c.candidate-candidate.result prefix) (offer_at c.withdraw_each-2.new.routing.book s prefix))) (sym c.deref-2.ensures)
-    (apart_heard c.args.conf.now c.args.payloads.now c.args.sender.slot c.args.sender.identifier c.in_ok-attrs.attrs.value c.candidate-candidate.result only (offer_at c.args.routing.now.book) (offer_at c.withdraw_each-2.new.routing.book) c.requires.sound went made)
+    subst (λ (a : PathAttributes). (prefix : Prefix) → AreApart (λ s. cond (c.args.sender.slot == s) (judged_at c.args.conf.now (payloads_under c.args.conf.now c.args.payloads.now) a c.candidate-candidate.result prefix) (offer_at c.withdraw_each-2.new.routing.book s prefix))) (sym c.deref-2.ensures)
+    (apart_heard c.args.conf.now (payloads_under c.args.conf.now c.args.payloads.now) c.args.sender.slot c.args.sender.identifier c.in_ok-attrs.attrs.value c.candidate-candidate.result only (offer_at c.args.routing.now.book) (offer_at c.withdraw_each-2.new.routing.book) c.requires.sound went made)
 
 pub returns-clause-sound : goal.returns-clause-sound
 returns-clause-sound g c =
@@ -42,8 +43,8 @@ returns-clause-sound g c =
     let gone = rw (c.withdrawn-withdrawn.ensures, c.announced-announced.ensures) at c.withdraw_each-2.ensures.offers in
     let come = rw c.deref-2.ensures at c.announce_each.ensures.offers in
     let only = is_only_withdrawn c.args.update.withdrawn c.args.update.announced in
-    let taken = offers_taken c.args.sender.slot c.in_ok-attrs.attrs.value (judged_at c.args.conf.now c.args.payloads.now c.in_ok-attrs.attrs.value c.candidate-candidate.result) c.args.update.withdrawn c.args.update.announced c.bring_all.new.named.items c.args.routing.now c.bring_all.new.routing c.withdraw_each-2.new.routing c.announce_each.new.routing brought gone come in
-    sound_heard c.args.conf.now c.args.payloads.now c.args.sender.slot c.args.sender.identifier c.in_ok-attrs.attrs.value c.candidate-candidate.result only (λ p. is_among p c.args.update.announced) (offer_at c.args.routing.now.book) (left_of c.args.sender.slot only (offer_at c.args.routing.now.book)) (offer_at c.announce_each.new.routing.book) c.requires.sound (λ s p. refl) made taken
+    let taken = offers_taken c.args.sender.slot c.in_ok-attrs.attrs.value (judged_at c.args.conf.now (payloads_under c.args.conf.now c.args.payloads.now) c.in_ok-attrs.attrs.value c.candidate-candidate.result) c.args.update.withdrawn c.args.update.announced c.bring_all.new.named.items c.args.routing.now c.bring_all.new.routing c.withdraw_each-2.new.routing c.announce_each.new.routing brought gone come in
+    sound_heard c.args.conf.now (payloads_under c.args.conf.now c.args.payloads.now) c.args.sender.slot c.args.sender.identifier c.in_ok-attrs.attrs.value c.candidate-candidate.result only (λ p. is_among p c.args.update.announced) (offer_at c.args.routing.now.book) (left_of c.args.sender.slot only (offer_at c.args.routing.now.book)) (offer_at c.announce_each.new.routing.book) c.requires.sound (λ s p. refl) made taken
 
 pub returns-clause-routes : goal.returns-clause-routes
 returns-clause-routes g c =
@@ -63,8 +64,8 @@ returns-clause-kept g c =
     let come_offers = rw c.deref-2.ensures at c.announce_each.ensures.offers in
     let only = is_only_withdrawn c.args.update.withdrawn c.args.update.announced in
     let routes = routes_taken c.args.sender.slot c.in_ok-attrs.attrs.value c.args.update.withdrawn c.args.update.announced c.bring_all.new.named.items c.args.routing.now c.bring_all.new.routing c.withdraw_each-2.new.routing c.announce_each.new.routing brought gone_routes come_routes in
-    let offers = offers_taken c.args.sender.slot c.in_ok-attrs.attrs.value (judged_at c.args.conf.now c.args.payloads.now c.in_ok-attrs.attrs.value c.candidate-candidate.result) c.args.update.withdrawn c.args.update.announced c.bring_all.new.named.items c.args.routing.now c.bring_all.new.routing c.withdraw_each-2.new.routing c.announce_each.new.routing brought gone_offers come_offers in
-    kept_taken c.args.conf.now c.args.payloads.now c.args.sender c.in_ok-attrs.attrs.value c.candidate-candidate.result only (λ p. is_among p c.args.update.announced) c.args.routing.now c.announce_each.new.routing made routes offers
+    let offers = offers_taken c.args.sender.slot c.in_ok-attrs.attrs.value (judged_at c.args.conf.now (payloads_under c.args.conf.now c.args.payloads.now) c.in_ok-attrs.attrs.value c.candidate-candidate.result) c.args.update.withdrawn c.args.update.announced c.bring_all.new.named.items c.args.routing.now c.bring_all.new.routing c.withdraw_each-2.new.routing c.announce_each.new.routing brought gone_offers come_offers in
+    kept_taken c.args.conf.now (payloads_under c.args.conf.now c.args.payloads.now) c.args.sender c.in_ok-attrs.attrs.value c.candidate-candidate.result only (λ p. is_among p c.args.update.announced) c.args.routing.now c.announce_each.new.routing made routes offers
 
 pub returns-clause-chosen : goal.returns-clause-chosen
 returns-clause-chosen g c =
