@@ -163,6 +163,12 @@ def main():
     look("a rule without words is a bad line", ask(2, "policy cut accept ;")[1].startswith("bad line: "))
     look("it is used", ask(2, "use in 0 far") == (0, "ok\n"))
     look("policies are shown", ask(2, "show policies") == (0, "policy far prefix 203.0.113.0/24 24 32 reject ; accept degree 200\n# in 0, out\npolicy cut state invalid reject\n# in, out\nend\n"))
+    look("a filter is told", ask(2, "filter both 10.0.0.0/8 64496") == (0, "ok\n"))
+    look("a payload is asserted", ask(2, "assert 10.0.0.0/8 24 64497") == (0, "ok\n"))
+    look("it is in force", ask(2, "show payloads") == (0, "10.0.0.0/8-24 AS64497\nend\n"))
+    look("exceptions are shown", ask(2, "show exceptions") == (0, "filter both 10.0.0.0/8 64496\nassert 10.0.0.0/8 24 64497\nend\n"))
+    look("they go again", ask(2, "nofilter both 10.0.0.0/8 64496") == (0, "ok\n") and ask(2, "noassert 10.0.0.0/8 24 64497") == (0, "ok\n"))
+    look("and none is shown", ask(2, "show exceptions") == (0, "end\n"))
     REJECTED = "203.0.113.0/24 0 no candidate, the import policy rejects it: path 65000 next-hop 192.0.2.1 origin igp\nend\n"
     look("why a route is no candidate", comes(2, "show rib 203.0.113.0/24", lambda text: text == REJECTED))
     look("another one's degree", ask(2, "show rib 198.51.100.0/24")[1].startswith("198.51.100.0/24 0 NotFound 200 best: "))

@@ -18,7 +18,7 @@ ovctl --help, --version
 
 The words are to ovbgpd a command, as in a file of commands, or one of these:
 show sessions, show peers, show cache, show rib, show rib PREFIX, show payloads, show in SLOT, show octets SLOT, show held SLOT,
-show waiting SLOT, show policies, clear SLOT (its session ends by Cease, Administrative Shutdown, and begins again)
+show waiting SLOT, show policies, show exceptions, clear SLOT (its session ends by Cease, Administrative Shutdown, and begins again)
 To ovcache: show clients, show versions, show list, show payloads, show payloads PREFIX, reread, accept
 To both:
 stop           ends all sessions and the program

@@ -16,7 +16,7 @@ use Rattle.speaker.specs.FirstRefusal.{LacksMemory, refusal_of}
 use Rattle.routes.specs.Linked.{Linked}
 use Rattle.speaker.specs.Runs.{Run, Turn, cache_history, history}
 use Rattle.speaker.specs.SpeakerState.{IsAsBefore, SpeakerState, tables_of}
-use Rattle.routes.specs.Tables.{link_at, network_route}
+use Rattle.routes.specs.Tables.{link_at, network_route, payloads_under}
 use Rattle.speaker.specs.declared.config.Config.{Config}
 use Rattle.speaker.specs.declared.event.Event.{Event}
 use Rattle.speaker.specs.declared.event.Event.TheVariants.{Command as Commanded}
@@ -104,7 +104,7 @@ agrees_as_before config r old new same a = record {
     tables : tables_of old ≡ tables_of new
     tables i = record {
       conf = sym same.conf i;
-      payloads = sym same.payloads i;
+      payloads = payloads_under (sym same.conf i) (sym same.payloads i);
       sessions = λ s. option_map (λ (l : Linked). l.peer.session) (sym (same.links s) i);
       routes = λ s p. sym (same.routes s p) i;
     }

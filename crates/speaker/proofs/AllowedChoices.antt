@@ -18,13 +18,14 @@ use Rattle.bgp_peer.proofs.Agreeing.{item_octet}
 use Rattle.bgp_peer.specs.SessionInputs.{Event, Terms, Octet, Signalled, input_of, item_at, kind_of, moment_of, onto, session, terms_of, update_input}
 use Rattle.net_prefix.specs.declared.payload.Vrp.{Vrp}
 use Rattle.net_prefix.specs.declared.prefix.Prefix.{Prefix}
+use Rattle.origin_valid.specs.Touched.{is_touched}
 use Rattle.rib_in.specs.LatestRoutes.{route_at}
 use Rattle.routes.specs.Heard.{update_heard}
 use Rattle.speaker.specs.AdjRibIn.{brought, route}
 use Rattle.routes.specs.Updates.{is_among, sound_update, word_if}
 use Rattle.bgp_conf.specs.Configuration.{is_network}
 use Rattle.speaker.proofs.KnownPrefixes.{IsKnown, network_among}
-use Rattle.speaker.specs.Choices.{is_known, is_touched, named_to, announced_in, announced_to, choices_by, choices_on, is_routed, routes_held}
+use Rattle.speaker.specs.Choices.{is_known, named_to, announced_in, announced_to, choices_by, choices_on, is_routed, routes_held}
 use Rattle.routes.specs.Chosen.{announced_if, how_many, named_if, AreDifferent}
 use Rattle.speaker.specs.Chosen.{Chooses}
 use Rattle.speaker.specs.Runs.{Run, configuration_of, history}

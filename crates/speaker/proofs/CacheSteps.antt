@@ -3,11 +3,13 @@ use Rattle.std.proofs.lemmas.List.{take-append-drop, take_all, take_more}
 use Rattle.bgp_conf.specs.Configuration.{Configuration}
 use Rattle.bgp_peer.specs.SessionInputs as happens
 use Rattle.bgp_peer.specs.SessionInputs.{Ticked}
+use Rattle.local_exceptions.specs.ExceptionSets.{ExceptionSets, under}
 use Rattle.net_prefix.specs.declared.asn.Asn.{Asn}
 use Rattle.net_prefix.specs.declared.payload.Vrp.{Vrp}
 use Rattle.net_prefix.specs.declared.prefix.Prefix.{Prefix}
 use Rattle.origin_valid.specs.Validity.{validity}
-use Rattle.origin_valid.proofs.StretchLaws.{over_change, same_state}
+use Rattle.origin_valid.proofs.Touches.{touched_by_change, untouched_states}
+use Rattle.origin_valid.specs.Touched.{is_touched}
 use Rattle.rib_in.specs.LatestRoutes.{HasRoute, route_at}
 use Rattle.decision.specs.BookContents.{offer_at}
 use Rattle.net_prefix.specs.declared.transport.Transport.TheVariants.{Open as Connected}
@@ -23,9 +25,9 @@ use Rattle.rtr_session.proofs.SessionLaws.{octets_are_dropped, pieces_join}
 use Rattle.speaker.specs.AdjRibIn.{route}
 use Rattle.speaker.specs.Agreement.{Agrees, CacheAgrees, CacheHears, CacheHearsUntil, CacheMayStarve, Holds, HoldsBy}
 use Rattle.speaker.specs.CacheMoves.{Revalidates, concerns}
-use Rattle.speaker.specs.Choices.{choices_cached, choices_cached_on, choices_in, is_touched}
+use Rattle.speaker.specs.Choices.{choices_cached, choices_cached_on, choices_in, in_force_with}
 use Rattle.speaker.specs.Runs.{Call, Run, Up_call, Fail_call, Bytes_call, Starved_call, Tick_call, Command_call, Take_call, Cache_up_call, Cache_fail_call, Cache_bytes_call, Cache_starved_call, Cache_take_call, cache_called, cache_history, configuration_of, history, moment_after, moment_called, turn}
-use Rattle.speaker.specs.SpeakerState.{SpeakerState}
+use Rattle.speaker.specs.SpeakerState.{SpeakerState, in_force_of}
 use Rattle.speaker.specs.declared.config.Config.{Config}
 use Rattle.speaker.proofs.AllowedChoices.{most_touched}
 use Rattle.speaker.proofs.Coming.{HasCome, Joins}
@@ -33,22 +35,19 @@ use Rattle.routes.proofs.Counting.{different_as}
 use Rattle.speaker.proofs.Events.{IsReady}
 use Rattle.speaker.proofs.KeptOffers.{kept_touched}
 use Rattle.speaker.proofs.KnownPrefixes.{IsKnown, known_of}
-use Rattle.routes.specs.Tables.{network_route}
+use Rattle.routes.specs.Tables.{network_route, payloads_under}
 use Rattle.speaker.proofs.Histories.{route_stays}
 use Rattle.speaker.proofs.Touches.{choices_from, choices_joined, choices_none, choices_octets, choices_twice, untouched}
-use Rattle.vrp_delta.specs.Delta.{change_between}
-use Rattle.vrp_delta.proofs.PayloadMembers.{has-after_change}
 
 -- What the events of the cache session make of the speaker, as the run with them has it.
 
--- a change concerns just what its payloads cover
-concerned : (before after : List Vrp) (q : Prefix) → concerns before after q ≡ is_touched before after q
-concerned before after q = over_change (change_between before after) q
+-- a change concerns just what the payloads cover that it makes come into force or go
+concerned : (e : ExceptionSets) (before after : List Vrp) (q : Prefix) → concerns e before after q ≡ is_touched (under e before) (under e after) q
+concerned e before after q = touched_by_change e before after q
 
 -- no other state changes
-pub states_kept : (before after : List Vrp) (q : Prefix) → concerns before after q ≡ false → (origin : Option Asn) → validity after q origin ≡ validity before q origin
-states_kept before after q out origin =
-    sym (same_state before after (change_between before after) q origin (λ payload. sym (has-after_change before after payload)) (sym (concerned before after q) ∙ out))
+pub states_kept : (e : ExceptionSets) (before after : List Vrp) (q : Prefix) → concerns e before after q ≡ false → (origin : Option Asn) → validity (under e after) q origin ≡ validity (under e before) q origin
+states_kept e before after q out origin = untouched_states (under e before) (under e after) q origin (sym (concerned e before after q) ∙ out)
 
 pub cache_moves : (config : Config) (conf : Configuration) (now : ℕ) (k1 k2 : List cached.Event) (histories : ℕ → List happens.Event) (most : ℕ) (r : Run) (old new : SpeakerState)
     → HoldsBy config conf now k1 histories most old → Revalidates old new → CacheAgrees config k2 new.cache → new.payloads ≡ in_force (cached.client config.cache_retry k2)
@@ -62,19 +61,32 @@ cache_moves config conf now k1 k2 histories most r old new h moves agrees payloa
   peers = rw moves.conf h.peers;
   slots = λ t. rw (moves.conf, moves.links, moves.adj_in) (h.slots t);
   networks = λ p. ap (λ table. route_at table 64 p) moves.adj_in ∙ h.networks p ∙ ap (λ c. network_route c p) (sym moves.conf);
-  kept = kept_touched (concerns old.payloads new.payloads) old new moves.conf moves.links moves.adj_in moves.made (states_kept old.payloads new.payloads) h.kept;
+  kept =
+      kept_touched (concerns old.conf.exceptions old.payloads new.payloads) old new (moves.conf ∙ ap (λ e. record old.conf { exceptions = e }) (sym exceptions)) moves.links moves.adj_in moves.made
+      (λ q out origin. ap (λ e. validity (under e new.payloads) q origin) exceptions ∙ states_kept old.conf.exceptions old.payloads new.payloads q out origin) h.kept;
   chosen =
       let few = moves.chosen.2 in
       let so_far = h.chosen in
       let before = moves.chosen_before in
-      let touched = most_touched config r (in_force (cached.client config.cache_retry k1)) (in_force (cached.client config.cache_retry k2)) moves.chosen.0 (different_as _ _ moves.chosen.0 here moves.chosen.1) in
+      let touched = most_touched config r (in_force_with config r k1) (in_force_with config r k2) moves.chosen.0 (different_as _ _ moves.chosen.0 here moves.chosen.1) in
       omega (arith, few, so_far, before, touched);
 }
   where
-    here : (p : Prefix) → (concerns old.payloads new.payloads p ≡ true) × HasRoute old.adj_in p
-        → (is_touched (in_force (cached.client config.cache_retry k1)) (in_force (cached.client config.cache_retry k2)) p ≡ true) × IsKnown config r p
+    exceptions : new.conf.exceptions ≡ old.conf.exceptions
+    exceptions = ap (λ (c : Configuration). c.exceptions) moves.conf
+
+    by : old.conf.exceptions ≡ (configuration_of config r).exceptions
+    by = ap (λ (c : Configuration). c.exceptions) (h.conf ∙ same)
+
+    before : under old.conf.exceptions old.payloads ≡ in_force_with config r k1
+    before i = under (by i) (h.payloads i)
+
+    after : under old.conf.exceptions new.payloads ≡ in_force_with config r k2
+    after i = under (by i) (payloads i)
+
+    here : (p : Prefix) → (concerns old.conf.exceptions old.payloads new.payloads p ≡ true) × HasRoute old.adj_in p → (is_touched (in_force_with config r k1) (in_force_with config r k2) p ≡ true) × IsKnown config r p
     here p both = (
-      subst (λ before. is_touched before (in_force (cached.client config.cache_retry k2)) p ≡ true) h.payloads (subst (λ after. is_touched old.payloads after p ≡ true) payloads (sym (concerned old.payloads new.payloads p) ∙ both.0)),
+      subst (λ x. is_touched x (in_force_with config r k2) p ≡ true) before (subst (λ x. is_touched (under old.conf.exceptions old.payloads) x p ≡ true) after (sym (concerned old.conf.exceptions old.payloads new.payloads p) ∙ both.0)),
       known_of config conf now k1 histories most r old h same routes p both.1,
     )
 
@@ -89,7 +101,11 @@ revalidates_none s new is = record {
   links = ap (λ (x : SpeakerState). x.links) is;
   adj_in = ap (λ (x : SpeakerState). x.adj_in) is;
   made = record {
-    made = λ slot q held. absurd (let never = sym (concerned s.payloads new.payloads q) ∙ held in let none = ap (λ x. is_touched s.payloads x q) (ap (λ (x : SpeakerState). x.payloads) is) ∙ untouched s.payloads q in cc);
+    made = λ slot q held. absurd (
+        let never = sym (concerned s.conf.exceptions s.payloads new.payloads q) ∙ held in
+        let none = ap (λ (x : SpeakerState). is_touched (in_force_of s) (under s.conf.exceptions x.payloads) q) is ∙ untouched (in_force_of s) q in
+        cc
+        );
     still = λ slot q out. ap (λ (x : SpeakerState). offer_at x.book slot q) is;
   };
   chosen = ([], tt, let same = ap (λ (x : SpeakerState). x.chosen) is in omega (arith, same));
@@ -270,7 +286,7 @@ starved_choices config r done piece behind k same =
     let few = choices_octets config r piece k1 in
     let first = choices_twice config r k1 k2 (cached.onto behind (cached.Refused ∷ k2)) in
     let later = choices_twice config r k2 (cached.Refused ∷ k2) (cached.onto behind (cached.Refused ∷ k2)) in
-    let none = choices_none config r (cached.Refused ∷ k2) (cached.onto behind (cached.Refused ∷ k2)) same in
+    let none = choices_none config r (cached.Refused ∷ k2) (cached.onto behind (cached.Refused ∷ k2)) (ap (λ x. payloads_under (configuration_of config r) x) same) in
     omega (arith, joined, few, first, later, none)
 
 -- octets come to it up to one that completes a PDU to which memory is refused

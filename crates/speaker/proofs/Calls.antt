@@ -15,9 +15,9 @@ use Rattle.routes.specs.Export.{export_in, export_peer_of}
 use Rattle.speaker.specs.Export.{export_to}
 use Rattle.routes.specs.Linked.{Linked}
 use Rattle.speaker.specs.Queueing.{Queue, Service}
-use Rattle.speaker.specs.Runs.{Call, Run, turn, configuration_of, history, payloads_after, served_by}
+use Rattle.speaker.specs.Runs.{Call, Run, turn, configuration_of, history, loaded_after, served_by}
 use Rattle.speaker.specs.SpeakerState.{SpeakerState}
-use Rattle.routes.specs.Tables.{Tables, best_at, network_route, peer_route_at}
+use Rattle.routes.specs.Tables.{Tables, best_at, network_route, payloads_under, peer_route_at}
 use Rattle.speaker.specs.declared.config.Config.{Config}
 use Rattle.speaker.proofs.SlotStates.{slot_session}
 use Rattle.speaker.proofs.PeerRoutes.{peers_same}
@@ -56,12 +56,12 @@ pub slot_route : (config : Config) (peer : Option ConfiguredPeer) (l : Option Li
     → route h p ≡ routes p
 slot_route config peer l routes h p a = sym (a.routes_are p)
 
--- the run's tables are those that are kept
-pub tables_same : (config : Config) (r : Run) (conf : Configuration) (payloads : List Vrp) (links : ℕ → Option Linked) (adj_in : RouteTable) → configuration_of config r ≡ conf → payloads ≡ payloads_after config r
-    → SlotsAgree config conf links adj_in (λ s. history config s r) → ((prefix : Prefix) → route_at adj_in 64 prefix ≡ network_route conf prefix) → tables_after config r ≡ tables_in conf payloads links adj_in
+-- the run's tables are those that are kept, where these payloads are loaded
+pub tables_same : (config : Config) (r : Run) (conf : Configuration) (payloads : List Vrp) (links : ℕ → Option Linked) (adj_in : RouteTable) → configuration_of config r ≡ conf → payloads ≡ loaded_after config r
+    → SlotsAgree config conf links adj_in (λ s. history config s r) → ((prefix : Prefix) → route_at adj_in 64 prefix ≡ network_route conf prefix) → tables_after config r ≡ tables_in conf (payloads_under conf payloads) links adj_in
 tables_same config r conf payloads links adj_in same none all networks = λ i. record {
   conf = same i;
-  payloads = sym none i;
+  payloads = payloads_under (same i) (sym none i);
   sessions = λ s. slot_session config (peer_at conf s) (links s) (peer_route_at adj_in s) (history config s r) (all s) i;
   routes = λ s prefix. under s prefix i;
 }

@@ -11,7 +11,7 @@ use Rattle.bgp_conf.specs.Configuration.{Configuration, is_network, peer_at}
 use Rattle.bgp_conf.specs.ConfAfter.{TakesMemory, conf_after, exporting, importing, is_network_after, is_prefix as is_prefix_of, peer_after, configured_of}
 use Rattle.bgp_conf.specs.FirstRefusal.{first_refusal}
 use Rattle.bgp_conf.specs.declared.command.Command.{Command}
-use Rattle.bgp_conf.specs.declared.command.Command.TheVariants.{AddPeer, RemovePeer, Enable, Disable, SetPolicy, DropPolicy, UseIn, UseOut, Network, NoNetwork, Reach, NoReach}
+use Rattle.bgp_conf.specs.declared.command.Command.TheVariants.{AddPeer, RemovePeer, Enable, Disable, SetPolicy, DropPolicy, UseIn, UseOut, Network, NoNetwork, Reach, NoReach, Filter, NoFilter, Assert, NoAssert}
 use Rattle.bgp_conf.specs.declared.command.PeerConf.{PeerConf}
 use Rattle.bgp_conf.specs.declared.conf.ConfiguredPeer.{ConfiguredPeer}
 use Rattle.bgp_conf.specs.declared.refusal.Refusal.{Refusal}
@@ -53,8 +53,8 @@ use Rattle.routes.specs.Commands.{resolves}
 use Rattle.speaker.specs.Moves.{Announces, Moves, IsPut}
 use Rattle.speaker.specs.Runs.{Call, Run, turn, Up_call, Fail_call, Bytes_call, Starved_call, Tick_call, Command_call, Take_call, Cache_up_call, Cache_fail_call, Cache_bytes_call, Cache_starved_call, Cache_take_call, cache_history, commanded, conf_called, configuration_of, history, moment_after, opened_commanded, terms_in}
 use Rattle.speaker.specs.SlotTimes.{times_at}
-use Rattle.speaker.specs.SpeakerState.{SpeakerState, tables_of}
-use Rattle.routes.specs.Tables.{link_at, network_route, peer_route_at, session_at, tables}
+use Rattle.speaker.specs.SpeakerState.{SpeakerState, in_force_of, tables_of}
+use Rattle.routes.specs.Tables.{link_at, network_route, payloads_under, peer_route_at, session_at, tables}
 use Rattle.speaker.specs.declared.config.Config.{Config}
 use Rattle.speaker.proofs.AllowedChoices.{most_known, most_routes, signal_few}
 use Rattle.speaker.proofs.Calls.{slots_changed}
@@ -62,7 +62,7 @@ use Rattle.routes.proofs.Counting.{different_as}
 use Rattle.speaker.proofs.Events.{put_by, slot_is, slot_now, slot_of}
 use Rattle.speaker.proofs.Moments.{moment_same}
 use Rattle.routes.proofs.KeptOffers.{IsAlike, taken_by, kept_gone, kept_network}
-use Rattle.speaker.proofs.KeptOffers.{kept_added, kept_again, kept_conf, kept_partly, moves_keep}
+use Rattle.speaker.proofs.KeptOffers.{in_force_same, kept_added, kept_again, kept_conf, kept_partly, moves_keep}
 use Rattle.speaker.proofs.KnownPrefixes.{IsKnown, known_of}
 use Rattle.speaker.proofs.PeerRoutes.{agrees_peers, peer_as}
 use Rattle.routes.proofs.Places.{same_from_is_prefix}
@@ -207,6 +207,10 @@ resolved config r conf (Network prefix) is = absurd (cc)
 resolved config r conf (NoNetwork prefix) is = absurd (cc)
 resolved config r conf (Reach prefix cost) is = record { peers = λ s. refl; histories = λ s. refl; opened = refl; choices = refl; networks = λ p. refl }
 resolved config r conf (NoReach prefix) is = record { peers = λ s. refl; histories = λ s. refl; opened = refl; choices = refl; networks = λ p. refl }
+resolved config r conf (Filter prefix asn) is = absurd (cc)
+resolved config r conf (NoFilter prefix asn) is = absurd (cc)
+resolved config r conf (Assert prefix max_len asn) is = absurd (cc)
+resolved config r conf (NoAssert prefix max_len asn) is = absurd (cc)
 
 pub resolved_opened : (config : Config) (r : Run) (command : Command) → resolves command ≡ true → 0 ≡ opened_commanded config r command
 resolved_opened config r command is = sym (resolved config r (configuration_of config r) command is).opened
@@ -218,7 +222,7 @@ resolved_set config r conf name rules = record { peers = λ s. refl; histories =
 -- an entry of `reach` comes or goes, or a policy has other rules
 pub holds_resolved : (config : Config) (r : Run) (command : Command) (old new : SpeakerState) → Resolved config r old.conf command → Holds config r old → new.conf ≡ conf_after old.conf command
     → ((s : ℕ) → peer_at new.conf s ≡ peer_after old.conf command s) → new.config ≡ old.config → new.moment ≡ old.moment → new.cache ≡ old.cache → new.payloads ≡ old.payloads → new.links ≡ old.links → new.adj_in ≡ old.adj_in
-    → AreMadeAgain (tables new.conf new.payloads old.links old.adj_in) (offer_at old.book) (offer_at new.book)
+    → AreMadeAgain (tables new.conf (in_force_of new) old.links old.adj_in) (offer_at old.book) (offer_at new.book)
     → (known : List Prefix) → AreDifferent (HasRoute old.adj_in) known → new.chosen ≤ old.chosen + length known → new.chosen_before ≡ old.chosen
     → Holds config (turn (Command_call command) [] ∷ r) new
 holds_resolved config r command old new so h conf peers config_same moment cache payloads links adj_in again known routed count counted =
@@ -283,7 +287,7 @@ holds_there config r network old new h is after there = subst (λ s. Holds confi
   peers = h.peers;
   slots = h.slots;
   networks = λ p. h.networks p ∙ ap (λ b. cond b (Some originated) None) (sym (after p ∙ stays p (is_prefix_of network p) refl));
-  kept = kept_conf old (conf_after old.conf (Network network)) refl refl (λ s. refl) (λ s route. refl) h.kept;
+  kept = kept_conf old (conf_after old.conf (Network network)) refl refl refl (λ s. refl) (λ s route. refl) h.kept;
   chosen = omega arith;
 })
   where
@@ -358,9 +362,9 @@ holds_network config r network old mid new h is after comes = record {
 
     kept_announced : AreKept (tables_of new) (offer_at new.book)
     kept_announced =
-        let before : AreKept (tables_of (record old { conf = conf_after old.conf (Network network) })) (offer_at old.book) = kept_conf old (conf_after old.conf (Network network)) refl refl (λ s. refl) (λ s route. refl) h.kept in
+        let before : AreKept (tables_of (record old { conf = conf_after old.conf (Network network) })) (offer_at old.book) = kept_conf old (conf_after old.conf (Network network)) refl refl refl (λ s. refl) (λ s route. refl) h.kept in
         let now : AreKept (tables_of mid) (offer_at mid.book) = subst (λ (s : SpeakerState). AreKept (tables_of s) (offer_at s.book)) (sym is) before in
-        let grown = kept_network mid.conf mid.payloads network (λ s. session_at mid.links s) mid.adj_in new.adj_in (offer_at mid.book) (offer_at new.book) (λ p q same. (local_is p 64 q same).1) (λ s p same. (local_is network s p same).0) comes.routes comes.offers now in
+        let grown = kept_network mid.conf (in_force_of mid) network (λ s. session_at mid.links s) mid.adj_in new.adj_in (offer_at mid.book) (offer_at new.book) (λ p q same. (local_is p 64 q same).1) (λ s p same. (local_is network s p same).0) comes.routes comes.offers now in
         rw (comes.conf, comes.payloads, comes.links) grown
 
 -- a prefix is none any more
@@ -404,8 +408,8 @@ holds_retracted config r network old new h conf after routes offers config_same 
 
     kept_gone_now : AreKept (tables_of new) (offer_at new.book)
     kept_gone_now =
-        let before : AreKept (tables_of (record old { conf = new.conf })) (offer_at old.book) = kept_conf old new.conf (ap (λ (c : Configuration). c.own) conf) (ap (λ (c : Configuration). c.reach) conf) (λ s. ap (λ c. option_map taken_by (peer_at c s)) conf) (λ s route. ap (λ c. import_action c s route) conf) h.kept in
-        let gone = kept_gone new.conf old.payloads (λ s. session_at old.links s) (λ s p. route_at old.adj_in s p) (λ s p. route_at new.adj_in s p) (offer_at old.book) (offer_at new.book) (λ s p. is_route 64 network s p) routes offers before in
+        let before : AreKept (tables_of (record old { conf = new.conf })) (offer_at old.book) = kept_conf old new.conf (ap (λ (c : Configuration). c.own) conf) (ap (λ (c : Configuration). c.reach) conf) (ap (λ (c : Configuration). c.exceptions) conf) (λ s. ap (λ c. option_map taken_by (peer_at c s)) conf) (λ s route. ap (λ c. import_action c s route) conf) h.kept in
+        let gone = kept_gone new.conf (payloads_under new.conf old.payloads) (λ s. session_at old.links s) (λ s p. route_at old.adj_in s p) (λ s p. route_at new.adj_in s p) (offer_at old.book) (offer_at new.book) (λ s p. is_route 64 network s p) routes offers before in
         rw (payloads, links) gone
 
 -- ---- policies
@@ -422,7 +426,7 @@ holds_dropped closing config r name old new may h is so_far = subst (λ s. Holds
   peers = h.peers;
   slots = h.slots;
   networks = h.networks;
-  kept = kept_conf old (conf_after old.conf (DropPolicy name)) refl refl (λ s. refl) (λ s route. import_action-DropPolicy old.conf s route closing name may) h.kept;
+  kept = kept_conf old (conf_after old.conf (DropPolicy name)) refl refl refl (λ s. refl) (λ s route. import_action-DropPolicy old.conf s route closing name may) h.kept;
   chosen = omega (arith, so_far);
 })
 
@@ -449,7 +453,7 @@ slot_importing config found found2 linked routes h same a = record { configured 
 -- a peer has another import policy: the candidates of the prefixes to which it has routes were made again
 pub holds_used : (closing : ℕ) (config : Config) (r : Run) (slot : ℕ) (name : Bor (List ℕ)) (old new : SpeakerState) → slot < 64 → first_refusal old.conf closing (UseIn slot name) ≡ None → Holds config r old
     → new.conf ≡ conf_after old.conf (UseIn slot name) → new.config ≡ old.config → new.moment ≡ old.moment → new.cache ≡ old.cache → new.payloads ≡ old.payloads → new.links ≡ old.links → new.adj_in ≡ old.adj_in
-    → AreMadeWhere (tables new.conf new.payloads old.links old.adj_in) (λ q. is_some (route_at old.adj_in slot q)) (offer_at old.book) (offer_at new.book)
+    → AreMadeWhere (tables new.conf (in_force_of new) old.links old.adj_in) (λ q. is_some (route_at old.adj_in slot q)) (offer_at old.book) (offer_at new.book)
     → OncePerPrefix (λ p. IsSome (route_at old.adj_in slot p)) old.chosen new.chosen → new.chosen_before ≡ old.chosen_before → old.chosen ≤ old.chosen_before
     → Holds config (turn (Command_call (UseIn slot name)) [] ∷ r) new
 holds_used closing config r slot name old new within may h conf config_same moment cache payloads links adj_in made once counted so_far =
@@ -483,8 +487,8 @@ holds_used closing config r slot name old new within may h conf config_same mome
       networks = λ p. ap (λ table. route_at table 64 p) adj_in ∙ h.networks p ∙ ap (λ c. network_route c p) (sym conf);
       kept =
           kept_partly (λ q. is_some (route_at old.adj_in slot q)) old new links adj_in
-          (subst (λ l. AreMadeWhere (tables new.conf new.payloads l new.adj_in) (λ q. is_some (route_at old.adj_in slot q)) (offer_at old.book) (offer_at new.book)) (sym links)
-          (subst (λ table. AreMadeWhere (tables new.conf new.payloads old.links table) (λ q. is_some (route_at old.adj_in slot q)) (offer_at old.book) (offer_at new.book)) (sym adj_in) made))
+          (subst (λ l. AreMadeWhere (tables new.conf (in_force_of new) l new.adj_in) (λ q. is_some (route_at old.adj_in slot q)) (offer_at old.book) (offer_at new.book)) (sym links)
+          (subst (λ table. AreMadeWhere (tables new.conf (in_force_of new) old.links table) (λ q. is_some (route_at old.adj_in slot q)) (offer_at old.book) (offer_at new.book)) (sym adj_in) made))
           alike h.kept;
       chosen = omega (arith, few, most, counted, so_far);
     }
@@ -500,7 +504,7 @@ holds_used closing config r slot name old new within may h conf config_same mome
       peer = ap (option_map taken_by) (ap (λ c. peer_at c s) conf ∙ lookup-with_changed old.conf.peers slot s (importing (name_of name.now)) ∙ ap (λ b. cond b (option_map (importing (name_of name.now)) (peer_at old.conf slot)) (peer_at old.conf s)) (ne_eqb s slot other));
       identifier = ap (λ t. option_map (λ (x : Session). x.identifier) (session_at t s)) links;
       route = ap (λ t. route_at t s q) adj_in;
-      state = λ origin. ap (λ x. validity x q origin) payloads;
+      state = λ origin. ap (λ x. validity x q origin) (in_force_same old new (ap (λ (c : Configuration). c.exceptions) conf) payloads);
       action = λ seen. ap (λ c. import_action c s seen) conf ∙ import_action-UseIn old.conf s seen slot name other;
     }
 
@@ -532,7 +536,7 @@ holds_exporting config r slot name old new h is so_far = subst (λ s. Holds conf
   );
   slots = λ t. slot_importing config (peer_at old.conf t) (peer_at (conf_after old.conf (UseOut slot name)) t) (link_at old.links t) (peer_route_at old.adj_in t) (history config t r) (settings (terms_in config) (λ peer. refl) t) (h.slots t);
   networks = h.networks;
-  kept = kept_conf old (conf_after old.conf (UseOut slot name)) refl refl (settings taken_by (λ peer. refl)) (λ s route. import_action-UseOut old.conf s route slot name) h.kept;
+  kept = kept_conf old (conf_after old.conf (UseOut slot name)) refl refl refl (settings taken_by (λ peer. refl)) (λ s route. import_action-UseOut old.conf s route slot name) h.kept;
   chosen = omega (arith, so_far);
 })
   where
@@ -563,6 +567,10 @@ own_after conf (Network prefix) = refl
 own_after conf (NoNetwork prefix) = refl
 own_after conf (Reach prefix cost) = refl
 own_after conf (NoReach prefix) = refl
+own_after conf (Filter prefix asn) = refl
+own_after conf (NoFilter prefix asn) = refl
+own_after conf (Assert prefix max_len asn) = refl
+own_after conf (NoAssert prefix max_len asn) = refl
 
 own_called : (call : Call) (conf : Configuration) → (conf_called call conf).own ≡ conf.own
 own_called (Up_call slot) conf = refl
@@ -632,7 +640,7 @@ holds_added closing config r slot peer old new h may conf peers put config_same 
       kept =
           kept_added slot (configured (terms_in config (configured_of peer)).own peer.mode (times_at config.timers slot)) old new (offer_at old.book) (offer_at new.book) (slot-from_accepted old.conf closing slot peer may) put
           (λ p. was p ∙ no_route (history config slot r) p vacant)
-          (ap (λ (c : Configuration). c.own) conf) (ap (λ (c : Configuration). c.reach) conf) (ap (λ (c : Configuration). c.policies) conf) (λ t other. peers t ∙ rw (ne_eqb t slot other) refl)
+          (ap (λ (c : Configuration). c.own) conf) (ap (λ (c : Configuration). c.reach) conf) (ap (λ (c : Configuration). c.policies) conf) (ap (λ (c : Configuration). c.exceptions) conf) (λ t other. peers t ∙ rw (ne_eqb t slot other) refl)
           payloads adj_in (ap (λ b. offer_at b) book) h.kept;
       chosen = omega (arith, few);
     }

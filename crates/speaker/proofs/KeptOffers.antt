@@ -14,16 +14,24 @@ use Rattle.bgp_conf.specs.PeerPolicies.{import_action}
 use Rattle.policy.specs.PolicyMeaning.{Route}
 use Rattle.net_prefix.specs.declared.asn.Asn.{Asn}
 use Rattle.net_prefix.specs.declared.prefix.Prefix.{Prefix}
+use Rattle.local_exceptions.specs.ExceptionSets.{under}
 use Rattle.origin_valid.specs.Validity.{validity}
 use Rattle.rib_in.specs.LatestRoutes.{route_at}
 use Rattle.routes.specs.Linked.{Linked, moved}
 use Rattle.speaker.specs.Moves.{Hands, IsPut, KeepsKept, Moves, Pushes}
 use Rattle.routes.specs.Offers.{AreKept, AreMadeAgain, AreMadeWhere, IsOffer, IsSource, Offers}
 use Rattle.speaker.specs.Serving.{IsStill, IsToldAt}
-use Rattle.speaker.specs.SpeakerState.{SpeakerState, tables_of}
+use Rattle.speaker.specs.SpeakerState.{SpeakerState, in_force_of, tables_of}
 use Rattle.routes.specs.Tables.{link_at, session_at, tables}
 use Rattle.routes.proofs.CandidateLists.{none_routed}
 use Rattle.routes.proofs.KeptOffers.{same_action, taken_by, IsAlike, offer_alike, offer_unrouted, up_of, up_as, source_of, some_once, lasting, session_linked, no_none, some_if, kept_same}
+
+-- under the same exceptions the same payloads are in force
+pub in_force_same : (old new : SpeakerState) → new.conf.exceptions ≡ old.conf.exceptions → new.payloads ≡ old.payloads → in_force_of new ≡ in_force_of old
+in_force_same old new exceptions payloads i = under (exceptions i) (payloads i)
+
+pub in_force_kept : (old new : SpeakerState) → new.conf ≡ old.conf → new.payloads ≡ old.payloads → in_force_of new ≡ in_force_of old
+in_force_kept old new conf payloads = in_force_same old new (ap (λ (c : Configuration). c.exceptions) conf) payloads
 
 -- a session takes an input, and its routes go where it leaves Established
 pub kept_moved : (slot : ℕ) (l : Linked) (input : Input) (old new : SpeakerState) (had has : Offers) → link_at old.links slot ≡ Some l → IsPut slot (moved old.moment l input) old new → new.conf ≡ old.conf → new.payloads ≡ old.payloads
@@ -81,7 +89,7 @@ kept_moved slot l input old new had has linked put conf payloads routes offers k
     made_there s p other =
         subst (λ f. IsOffer (tables_of new) s p f) (sym (offer_off s p other))
         (offer_alike (tables_of old) (tables_of new) s p (had s p)
-        (record { own = ap (λ (c : Configuration). c.own) conf; reach = ap (λ (c : Configuration). c.reach) conf; peer = ap (λ c. option_map taken_by (peer_at c s)) conf; identifier = ap (option_map (λ (x : Session). x.identifier)) (session_off s other); route = route_off s p other; state = λ origin. ap (λ x. validity x p origin) payloads; action = λ seen. ap (λ c. import_action c s seen) conf })
+        (record { own = ap (λ (c : Configuration). c.own) conf; reach = ap (λ (c : Configuration). c.reach) conf; peer = ap (λ c. option_map taken_by (peer_at c s)) conf; identifier = ap (option_map (λ (x : Session). x.identifier)) (session_off s other); route = route_off s p other; state = λ origin. ap (λ x. validity x p origin) (in_force_kept old new conf payloads); action = λ seen. ap (λ c. import_action c s seen) conf })
         (kept.made s p))
 
     -- where it stays Established, so does its identifier
@@ -114,7 +122,7 @@ kept_moved slot l input old new had has linked put conf payloads routes offers k
           peer = ap (λ c. option_map taken_by (peer_at c slot)) conf;
           identifier = ap (option_map (λ (x : Session). x.identifier)) session_on ∙ ap Some lasts.1 ∙ sym (ap (option_map (λ (x : Session). x.identifier)) session_was);
           route = route_on p ∙ rw is refl;
-          state = λ origin. ap (λ x. validity x p origin) payloads;
+          state = λ origin. ap (λ x. validity x p origin) (in_force_kept old new conf payloads);
           action = λ seen. ap (λ c. import_action c slot seen) conf;
         })
         (kept.made slot p))
@@ -132,7 +140,7 @@ kept_put slot l m old new had has linked session put conf payloads adj_in book k
     kept_same (tables_of old) (tables_of new) had has
     (λ i. record {
       conf = sym conf i;
-      payloads = sym payloads i;
+      payloads = sym (in_force_kept old new conf payloads) i;
       sessions = λ s. sym (sessions s) i;
       routes = λ s p. route_at (sym adj_in i) s p;
     }) book kept
@@ -169,23 +177,23 @@ kept_still_links old new had still kept =
     kept_same (tables_of old) (tables_of (record old { links = new.links })) had had
     (λ i. record {
       conf = old.conf;
-      payloads = old.payloads;
+      payloads = in_force_of old;
       sessions = λ s. sym (ap (option_map (λ (l : Linked). l.peer.session)) (still.links s)) i;
       routes = λ s p. route_at old.adj_in s p;
     }) refl kept
 
 -- a peer is added to a slot that has no routes
 pub kept_added : (slot : ℕ) (peer : Slot) (old new : SpeakerState) (had has : Offers) → slot < 64 → IsPut slot (record { peer = peer; adj_out = [] }) old new → ((p : Prefix) → route_at old.adj_in slot p ≡ None)
-    → new.conf.own ≡ old.conf.own → new.conf.reach ≡ old.conf.reach → new.conf.policies ≡ old.conf.policies → ((s : ℕ) → s ≢ slot → peer_at new.conf s ≡ peer_at old.conf s)
+    → new.conf.own ≡ old.conf.own → new.conf.reach ≡ old.conf.reach → new.conf.policies ≡ old.conf.policies → new.conf.exceptions ≡ old.conf.exceptions → ((s : ℕ) → s ≢ slot → peer_at new.conf s ≡ peer_at old.conf s)
     → new.payloads ≡ old.payloads → new.adj_in ≡ old.adj_in → has ≡ had → AreKept (tables_of old) had → AreKept (tables_of new) has
-kept_added slot peer old new had has within put unrouted own reach policies peers payloads adj_in book kept = record {
+kept_added slot peer old new had has within put unrouted own reach policies exceptions peers payloads adj_in book kept = record {
   made = λ s p. subst (λ f. IsOffer (tables_of new) s p f) (ap (λ (o : Offers). o s p) (sym book)) (elim (cases_eq s slot) [
     | inl same ↦
         let was : route_at old.adj_in s p ≡ None = subst (λ x. route_at old.adj_in x p ≡ None) (sym same) (unrouted p) in
         offer_unrouted (tables_of old) (tables_of new) s p (had s p) was (route_same s p ∙ was) (kept.made s p)
     | inr other ↦
         offer_alike (tables_of old) (tables_of new) s p (had s p)
-        (record { own = own; reach = reach; peer = ap (option_map taken_by) (peers s other); identifier = ap (option_map (λ (x : Session). x.identifier)) (session_off s other); route = route_same s p; state = λ origin. ap (λ x. validity x p origin) payloads; action = λ seen. same_action old.conf new.conf s seen policies (peers s other) })
+        (record { own = own; reach = reach; peer = ap (option_map taken_by) (peers s other); identifier = ap (option_map (λ (x : Session). x.identifier)) (session_off s other); route = route_same s p; state = λ origin. ap (λ x. validity x p origin) (in_force_same old new exceptions payloads); action = λ seen. same_action old.conf new.conf s seen policies (peers s other) })
         (kept.made s p)
   ]);
   routed = λ s p there.
@@ -225,26 +233,26 @@ kept_remade old new had has remade still links adj_in kept = record {
         remade s p (source_of (tables_of old) had s p kept there) there
 
 -- a configuration that says the same of the selection
-pub kept_conf : (s : SpeakerState) (conf : Configuration) → conf.own ≡ s.conf.own → conf.reach ≡ s.conf.reach → ((slot : ℕ) → option_map taken_by (peer_at conf slot) ≡ option_map taken_by (peer_at s.conf slot)) → ((slot : ℕ) (route : Route) → import_action conf slot route ≡ import_action s.conf slot route) → AreKept (tables_of s) (offer_at s.book)
+pub kept_conf : (s : SpeakerState) (conf : Configuration) → conf.own ≡ s.conf.own → conf.reach ≡ s.conf.reach → conf.exceptions ≡ s.conf.exceptions → ((slot : ℕ) → option_map taken_by (peer_at conf slot) ≡ option_map taken_by (peer_at s.conf slot)) → ((slot : ℕ) (route : Route) → import_action conf slot route ≡ import_action s.conf slot route) → AreKept (tables_of s) (offer_at s.book)
     → AreKept (tables_of (record s { conf = conf })) (offer_at s.book)
-kept_conf s conf own reach peers action kept = record {
+kept_conf s conf own reach exceptions peers action kept = record {
   made = λ slot p.
       offer_alike (tables_of s) (tables_of (record s { conf = conf })) slot p (offer_at s.book slot p)
-      (record { own = own; reach = reach; peer = peers slot; identifier = refl; route = refl; state = λ origin. refl; action = action slot }) (kept.made slot p);
+      (record { own = own; reach = reach; peer = peers slot; identifier = refl; route = refl; state = λ origin. ap (λ e. validity (under e s.payloads) p origin) exceptions; action = action slot }) (kept.made slot p);
   routed = kept.routed;
   below = kept.below;
 }
 
 -- with another configuration the candidates of all routes were made again
-pub kept_again : (old new : SpeakerState) → new.links ≡ old.links → new.adj_in ≡ old.adj_in → AreMadeAgain (tables new.conf new.payloads old.links old.adj_in) (offer_at old.book) (offer_at new.book) → KeepsKept old new
+pub kept_again : (old new : SpeakerState) → new.links ≡ old.links → new.adj_in ≡ old.adj_in → AreMadeAgain (tables new.conf (in_force_of new) old.links old.adj_in) (offer_at old.book) (offer_at new.book) → KeepsKept old new
 kept_again old new links adj_in again =
     kept_remade old new (offer_at old.book) (offer_at new.book)
     (λ slot prefix source there.
-    subst (λ t. IsOffer t slot prefix (offer_at new.book slot prefix)) (λ i. tables new.conf new.payloads (sym links i) (sym adj_in i)) (again.made slot prefix refl source there))
+    subst (λ t. IsOffer t slot prefix (offer_at new.book slot prefix)) (λ i. tables new.conf (in_force_of new) (sym links i) (sym adj_in i)) (again.made slot prefix refl source there))
     (λ slot prefix none. again.still slot prefix (inr none)) links adj_in
 
 -- the candidates of some prefixes are made again, and of the others nothing else is read
-pub kept_partly : (holds : Prefix → Bool) (old new : SpeakerState) → new.links ≡ old.links → new.adj_in ≡ old.adj_in → AreMadeWhere (tables new.conf new.payloads new.links new.adj_in) holds (offer_at old.book) (offer_at new.book)
+pub kept_partly : (holds : Prefix → Bool) (old new : SpeakerState) → new.links ≡ old.links → new.adj_in ≡ old.adj_in → AreMadeWhere (tables new.conf (in_force_of new) new.links new.adj_in) holds (offer_at old.book) (offer_at new.book)
     → ((s : ℕ) (q : Prefix) → holds q ≡ false → IsSome (route_at old.adj_in s q) → IsAlike (tables_of old) (tables_of new) s q) → AreKept (tables_of old) (offer_at old.book) → AreKept (tables_of new) (offer_at new.book)
 kept_partly holds old new links adj_in made alike kept = record {
   made = λ s p. made_here s p (holds p) refl (route_at old.adj_in s p) refl;
@@ -263,13 +271,13 @@ kept_partly holds old new links adj_in made alike kept = record {
         let there : IsSome (route_at old.adj_in s p) = rw is refl in
         let source = source_of (tables_of old) (offer_at old.book) s p kept there in
         let sessions : session_at new.links s ≡ session_at old.links s = ap (λ t. session_at t s) links in
-        let now : IsSource (tables new.conf new.payloads new.links new.adj_in) s = elim source [ inl up ↦ inl (up.0, (up.1.0, sessions ∙ up.1.1)) | inr local ↦ inr local ] in
+        let now : IsSource (tables new.conf (in_force_of new) new.links new.adj_in) s = elim source [ inl up ↦ inl (up.0, (up.1.0, sessions ∙ up.1.1)) | inr local ↦ inr local ] in
         made.made s p at now (some_if (route_at new.adj_in s p) (route_at old.adj_in s p) (ap (λ t. route_at t s p) adj_in) there)
 
--- the payloads in force change: of the other prefixes no state changes
-pub kept_touched : (holds : Prefix → Bool) (old new : SpeakerState) → new.conf ≡ old.conf → new.links ≡ old.links → new.adj_in ≡ old.adj_in
-    → AreMadeWhere (tables new.conf new.payloads new.links new.adj_in) holds (offer_at old.book) (offer_at new.book)
-    → ((q : Prefix) → holds q ≡ false → (origin : Option Asn) → validity new.payloads q origin ≡ validity old.payloads q origin)
+-- the payloads in force change, with those that are loaded or with the exceptions: of the other prefixes no state changes
+pub kept_touched : (holds : Prefix → Bool) (old new : SpeakerState) → new.conf ≡ record old.conf { exceptions = new.conf.exceptions } → new.links ≡ old.links → new.adj_in ≡ old.adj_in
+    → AreMadeWhere (tables new.conf (in_force_of new) new.links new.adj_in) holds (offer_at old.book) (offer_at new.book)
+    → ((q : Prefix) → holds q ≡ false → (origin : Option Asn) → validity (in_force_of new) q origin ≡ validity (in_force_of old) q origin)
     → AreKept (tables_of old) (offer_at old.book) → AreKept (tables_of new) (offer_at new.book)
 kept_touched holds old new conf links adj_in made states kept =
     kept_partly holds old new links adj_in made
@@ -284,18 +292,18 @@ kept_touched holds old new conf links adj_in made states kept =
     }) kept
 
 -- a slot is without routes and candidates, and what is read of the others stays
-pub kept_without : (slot : ℕ) (old new : SpeakerState) → AreKept (tables_of old) (offer_at old.book) → new.conf.own ≡ old.conf.own → new.conf.reach ≡ old.conf.reach → new.conf.policies ≡ old.conf.policies → new.payloads ≡ old.payloads
+pub kept_without : (slot : ℕ) (old new : SpeakerState) → AreKept (tables_of old) (offer_at old.book) → new.conf.own ≡ old.conf.own → new.conf.reach ≡ old.conf.reach → new.conf.policies ≡ old.conf.policies → new.conf.exceptions ≡ old.conf.exceptions → new.payloads ≡ old.payloads
     → ((t : ℕ) → t ≢ slot → peer_at new.conf t ≡ peer_at old.conf t) → ((t : ℕ) → t ≢ slot → session_at new.links t ≡ session_at old.links t)
     → ((t : ℕ) → t ≢ slot → (p : Prefix) → route_at new.adj_in t p ≡ route_at old.adj_in t p) → ((p : Prefix) → route_at new.adj_in slot p ≡ None)
     → ((t : ℕ) → t ≢ slot → (p : Prefix) → offer_at new.book t p ≡ offer_at old.book t p) → ((p : Prefix) → offer_at new.book slot p ≡ None)
     → ((session : Session) → session_at new.links slot ≡ Some session → slot < 64) → AreKept (tables_of new) (offer_at new.book)
-kept_without slot old new kept own reach policies payloads peers sessions routes unrouted offers unoffered low = record {
+kept_without slot old new kept own reach policies exceptions payloads peers sessions routes unrouted offers unoffered low = record {
   made = λ t p. elim (cases_eq t slot) [
     | inl same ↦ subst (λ x. IsOffer (tables_of new) x p (offer_at new.book x p)) (sym same) (subst (λ f. IsOffer (tables_of new) slot p f) (sym (unoffered p)) (none_routed (tables_of new) p slot (unrouted p)))
     | inr other ↦
         subst (λ f. IsOffer (tables_of new) t p f) (sym (offers t other p))
         (offer_alike (tables_of old) (tables_of new) t p (offer_at old.book t p)
-        (record { own = own; reach = reach; peer = ap (option_map taken_by) (peers t other); identifier = ap (option_map (λ (x : Session). x.identifier)) (sessions t other); route = routes t other p; state = λ origin. ap (λ x. validity x p origin) payloads; action = λ seen. same_action old.conf new.conf t seen policies (peers t other) })
+        (record { own = own; reach = reach; peer = ap (option_map taken_by) (peers t other); identifier = ap (option_map (λ (x : Session). x.identifier)) (sessions t other); route = routes t other p; state = λ origin. ap (λ x. validity x p origin) (in_force_same old new exceptions payloads); action = λ seen. same_action old.conf new.conf t seen policies (peers t other) })
         (kept.made t p))
   ];
   routed = λ t p there. elim (cases_eq t slot) [

@@ -15,6 +15,7 @@ pub mod Passing
 pub mod Messages
 pub mod Coming
 pub mod Events
+pub mod ExceptionCommands
 pub mod Commands
 pub mod Takes
 pub mod TimerEnds
@@ -32,4 +33,5 @@ pub mod CacheSteps
 pub mod Touches
 pub mod RoutesSeen
 pub mod ViewsBehind
+pub mod PayloadRows
 pub mod AskedRoutes

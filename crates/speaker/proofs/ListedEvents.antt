@@ -21,6 +21,7 @@ use Rattle.speaker.specs.declared.config.Config.{Config}
 use Rattle.speaker.specs.declared.event.Event.{Event}
 use Rattle.speaker.specs.declared.event.Report.{Report}
 use Rattle.routes.proofs.KeptOffers.{kept_same}
+use Rattle.speaker.proofs.KeptOffers.{in_force_kept}
 use Rattle.speaker.proofs.Refusals.{refusal_same}
 use Rattle.routes.proofs.WaitingLists.{nothing_rises}
 
@@ -107,7 +108,7 @@ agrees_same config r old new same a = record {
     tables : tables_of old ≡ tables_of new
     tables i = record {
       conf = sym same.conf i;
-      payloads = sym same.payloads i;
+      payloads = sym (in_force_kept old new same.conf same.payloads) i;
       sessions = λ s. option_map (λ (l : Linked). l.peer.session) (sym (same.links s) i);
       routes = λ s p. sym (same.routes s p) i;
     }

@@ -1,6 +1,6 @@
 use Rattle.std.proofs.Common.{◌≡◌, ◌==◌, ℕ, Bool, true, false, List, [], ◌∷◌, cond, refl, ap, ◌∙◌}
 use Rattle.bgp_conf.specs.declared.command.Command.{Command}
-use Rattle.bgp_conf.specs.declared.command.Command.TheVariants.{AddPeer, RemovePeer, Enable, Disable, SetPolicy, DropPolicy, UseIn, UseOut, Network, NoNetwork, Reach, NoReach}
+use Rattle.bgp_conf.specs.declared.command.Command.TheVariants.{AddPeer, RemovePeer, Enable, Disable, SetPolicy, DropPolicy, UseIn, UseOut, Network, NoNetwork, Reach, NoReach, Filter, NoFilter, Assert, NoAssert}
 use Rattle.bgp_peer.specs.SessionInputs as happens
 use Rattle.bgp_fsm.specs.declared.input.Input.TheVariants.{NoMemory, Expires}
 use Rattle.bgp_fsm.specs.declared.timers.Timer.{Timer}
@@ -50,6 +50,10 @@ commanded_stays config s (Network prefix) h = refl
 commanded_stays config s (NoNetwork prefix) h = refl
 commanded_stays config s (Reach prefix cost) h = refl
 commanded_stays config s (NoReach prefix) h = refl
+commanded_stays config s (Filter prefix asn) h = refl
+commanded_stays config s (NoFilter prefix asn) h = refl
+commanded_stays config s (Assert prefix max_len asn) h = refl
+commanded_stays config s (NoAssert prefix max_len asn) h = refl
 
 called_moves : (config : Config) (s : ℕ) (call : Call) (h : List happens.Event) → moment_of (called config s call h) ≡ moment_called call (moment_of h)
 called_moves config s (Up_call slot) h = either (s == slot) _ h (moment_of h) refl refl

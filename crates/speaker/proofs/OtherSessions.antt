@@ -4,7 +4,7 @@ use Rattle.std.proofs.lemmas.Nat.{or_comm}
 use Rattle.std.proofs.lemmas.Nat.Bits.{bit_at-zero}
 use Rattle.std.specs.Int.Bits.{bit_or, or_zero_l}
 use Rattle.bgp_conf.specs.declared.command.Command.{Command}
-use Rattle.bgp_conf.specs.declared.command.Command.TheVariants.{AddPeer, RemovePeer, Enable, Disable, SetPolicy, DropPolicy, UseIn, UseOut, Network, NoNetwork, Reach, NoReach}
+use Rattle.bgp_conf.specs.declared.command.Command.TheVariants.{AddPeer, RemovePeer, Enable, Disable, SetPolicy, DropPolicy, UseIn, UseOut, Network, NoNetwork, Reach, NoReach, Filter, NoFilter, Assert, NoAssert}
 use Rattle.bgp_fsm.specs.declared.session.Session.{Session}
 use Rattle.bgp_fsm.specs.declared.state.State.{State}
 use Rattle.bgp_fsm.specs.declared.state.State.TheVariants.{Idle, Connect, Active, OpenSent, OpenConfirm, Established}
@@ -42,6 +42,10 @@ command_stays config s (Network prefix) h other = refl
 command_stays config s (NoNetwork prefix) h other = refl
 command_stays config s (Reach prefix cost) h other = refl
 command_stays config s (NoReach prefix) h other = refl
+command_stays config s (Filter prefix asn) h other = refl
+command_stays config s (NoFilter prefix asn) h other = refl
+command_stays config s (Assert prefix max_len asn) h other = refl
+command_stays config s (NoAssert prefix max_len asn) h other = refl
 
 -- a call for another slot
 call_stays : (config : Config) (s : ℕ) (call : Call) (h : List Event) → is_call_for call s ≡ false → called config s call h ≡ h

@@ -135,12 +135,12 @@ still_some false x y is = is
 
 -- one slot is left without a peer
 gone_by : (config : Config) (r1 r2 : Run) (slot : ℕ) (old new : SpeakerState) → Holds config r1 old → slot < 64 → new.config ≡ old.config → new.moment ≡ old.moment → moment_after r2 ≡ moment_after r1 → new.conf ≡ configuration_of config r2 → new.cache ≡ old.cache → new.payloads ≡ old.payloads → cache_history r2 ≡ cache_history r1
-    → AreTaken config.asn new.conf → new.conf.own ≡ old.conf.own → new.conf.reach ≡ old.conf.reach → new.conf.policies ≡ old.conf.policies → ((p : Prefix) → network_route old.conf p ≡ network_route new.conf p) → ((t : ℕ) → t ≢ slot → peer_at new.conf t ≡ peer_at old.conf t) → ((t : ℕ) → t ≢ slot → link_at new.links t ≡ link_at old.links t)
+    → AreTaken config.asn new.conf → new.conf.own ≡ old.conf.own → new.conf.reach ≡ old.conf.reach → new.conf.policies ≡ old.conf.policies → new.conf.exceptions ≡ old.conf.exceptions → ((p : Prefix) → network_route old.conf p ≡ network_route new.conf p) → ((t : ℕ) → t ≢ slot → peer_at new.conf t ≡ peer_at old.conf t) → ((t : ℕ) → t ≢ slot → link_at new.links t ≡ link_at old.links t)
     → ((t : ℕ) → t ≢ slot → (p : Prefix) → route_at new.adj_in t p ≡ route_at old.adj_in t p) → ((p : Prefix) → route_at new.adj_in slot p ≡ None)
     → ((t : ℕ) → t ≢ slot → (p : Prefix) → offer_at new.book t p ≡ offer_at old.book t p) → ((p : Prefix) → offer_at new.book slot p ≡ None)
     → ((t : ℕ) → t ≢ slot → history config t r2 ≡ history config t r1) → new.chosen ≤ new.chosen_before + choices_in config r2
     → SlotAgrees config (peer_at new.conf slot) (link_at new.links slot) (route_at new.adj_in slot) (history config slot r2) → Holds config r2 new
-gone_by config r1 r2 slot old new h low config_same moment now conf cache payloads cached taken own reach policies same_networks peers links routes unrouted offers unoffered histories few here = record {
+gone_by config r1 r2 slot old new h low config_same moment now conf cache payloads cached taken own reach policies exceptions same_networks peers links routes unrouted offers unoffered histories few here = record {
   config_is = config_same ∙ h.config_is;
   moment = moment ∙ h.moment ∙ sym now;
   conf = conf;
@@ -149,7 +149,7 @@ gone_by config r1 r2 slot old new h low config_same moment now conf cache payloa
   peers = taken;
   slots = slots_changed config old.conf new.conf (link_at old.links) (link_at new.links) old.adj_in new.adj_in (λ t. history config t r1) (λ t. history config t r2) slot h.slots peers links routes histories (agrees_peers config (peer_at new.conf slot) (link_at new.links slot) new.adj_in slot (history config slot r2) low here);
   networks = λ p. routes 64 (λ is. not_local slot low (sym is)) p ∙ h.networks p ∙ same_networks p;
-  kept = kept_without slot old new h.kept own reach policies payloads peers (λ t other. ap (option_map (λ (x : Linked). x.peer.session)) (links t other)) routes unrouted offers unoffered (λ session there. low);
+  kept = kept_without slot old new h.kept own reach policies exceptions payloads peers (λ t other. ap (option_map (λ (x : Linked). x.peer.session)) (links t other)) routes unrouted offers unoffered (λ session there. low);
   chosen = few;
 }
 
@@ -185,7 +185,7 @@ holds_lost config r slot l old mid new h linked nobody moves chooses left so_far
     let P : List happens.Event → Type 0 = λ x. SlotAgrees config (peer_at new.conf slot) (link_at new.links slot) (route_at new.adj_in slot) x in
     let peers : (t : ℕ) → peer_at new.conf t ≡ peer_at old.conf t = λ t. ap (λ c. peer_at c t) (left.conf ∙ moves.rest.conf) in
     gone_by config r after slot old new h (within_slots config r slot l old h linked) (left.config ∙ moves.rest.config) (left.moment ∙ moves.rest.moment) refl (left.conf ∙ moves.rest.conf ∙ h.conf) (left.cache ∙ moves.rest.cache) (left.payloads ∙ moves.rest.payloads) refl
-    (h.peers.0, λ t peer there. h.peers.1 t peer (sym (peers t) ∙ there)) (ap (λ (c : Configuration). c.own) (left.conf ∙ moves.rest.conf)) (ap (λ (c : Configuration). c.reach) (left.conf ∙ moves.rest.conf)) (ap (λ (c : Configuration). c.policies) (left.conf ∙ moves.rest.conf)) (λ p. ap (λ c. network_route c p) (sym (left.conf ∙ moves.rest.conf))) (λ t other. peers t)
+    (h.peers.0, λ t peer there. h.peers.1 t peer (sym (peers t) ∙ there)) (ap (λ (c : Configuration). c.own) (left.conf ∙ moves.rest.conf)) (ap (λ (c : Configuration). c.reach) (left.conf ∙ moves.rest.conf)) (ap (λ (c : Configuration). c.policies) (left.conf ∙ moves.rest.conf)) (ap (λ (c : Configuration). c.exceptions) (left.conf ∙ moves.rest.conf)) (λ p. ap (λ c. network_route c p) (sym (left.conf ∙ moves.rest.conf))) (λ t other. peers t)
     (λ t other. left.links t other ∙ put_off slot t l Fail old mid moves other)
     (λ t other p. ap (λ x. route_at x t p) left.adj_in ∙ moves.routes t p ∙ off_either (effects_of Fail l.peer.session).left slot t (route_at old.adj_in t p) other) routes
     (λ t other p. ap (λ b. offer_at b t p) left.book ∙ moves.offers t p ∙ off_either (effects_of Fail l.peer.session).left slot t (offer_at old.book t p) other)
@@ -251,7 +251,7 @@ holds_removed config r slot l old mid forgot new h linked moves chooses forgets 
     let nobody : peer_at new.conf slot ≡ None = peers slot ∙ ap (λ b. cond b None (peer_at old.conf slot)) (eq-eqb slot slot refl) in
     let routes : (p : Prefix) → route_at new.adj_in slot p ≡ None = λ p. ap (λ t. route_at t slot p) left.adj_in ∙ forgets.routes slot p ∙ ap (λ b. cond b None (route_at mid.adj_in slot p)) (eq-eqb slot slot refl) in
     gone_by config r after slot old new h (within_slots config r slot l old h linked) (left.config ∙ forgets.config ∙ moves.rest.config) (left.moment ∙ forgets.moment ∙ moves.rest.moment) refl (conf_is ∙ ap (λ c. conf_after c (RemovePeer slot)) h.conf) (left.cache ∙ forgets.cache ∙ moves.rest.cache) (left.payloads ∙ forgets.payloads ∙ moves.rest.payloads) refl
-    (h.peers.0, λ t peer there. h.peers.1 t peer (still_some (t == slot) (peer_at old.conf t) peer (sym (peers t) ∙ there))) (ap (λ (c : Configuration). c.own) conf_is) (ap (λ (c : Configuration). c.reach) conf_is) (ap (λ (c : Configuration). c.policies) conf_is) (λ p. ap (λ c. network_route c p) (sym conf_is))
+    (h.peers.0, λ t peer there. h.peers.1 t peer (still_some (t == slot) (peer_at old.conf t) peer (sym (peers t) ∙ there))) (ap (λ (c : Configuration). c.own) conf_is) (ap (λ (c : Configuration). c.reach) conf_is) (ap (λ (c : Configuration). c.policies) conf_is) (ap (λ (c : Configuration). c.exceptions) conf_is) (λ p. ap (λ c. network_route c p) (sym conf_is))
     (λ t other. peers t ∙ ap (λ b. cond b None (peer_at old.conf t)) (ne_eqb t slot other))
     (λ t other. left.links t other ∙ ap (λ ls. link_at ls t) forgets.links ∙ put_off slot t l Removed old mid moves other)
     (λ t other p. ap (λ x. route_at x t p) left.adj_in ∙ forgets.routes t p ∙ ap (λ b. cond b None (route_at mid.adj_in t p)) (ne_eqb t slot other) ∙ moves.routes t p

@@ -23,9 +23,8 @@ revalidates_from a old mid new same is moves = subst (λ x. Revalidates x new) s
   conf = moves.conf ∙ ap (λ (x : SpeakerState). x.conf) is;
   links = moves.links ∙ ap (λ (x : SpeakerState). x.links) is;
   adj_in = moves.adj_in ∙ ap (λ (x : SpeakerState). x.adj_in) is;
-  made = subst (λ b. AreMadeWhere (tables_of new) (concerns a.payloads new.payloads) (offer_at b) (offer_at new.book)) (ap (λ (x : SpeakerState). x.book) is) moves.made;
-  chosen = subst (λ n. OncePerPrefix (λ p. (concerns a.payloads new.payloads p ≡ true) × HasRoute a.adj_in p) n new.chosen) (ap (λ (x : SpeakerState). x.chosen) is)
-      (subst (λ t. OncePerPrefix (λ p. (concerns a.payloads new.payloads p ≡ true) × HasRoute t p) mid.chosen new.chosen) (ap (λ (x : SpeakerState). x.adj_in) is) moves.chosen);
+  made = subst (λ (x : SpeakerState). AreMadeWhere (tables_of new) (concerns x.conf.exceptions a.payloads new.payloads) (offer_at x.book) (offer_at new.book)) is moves.made;
+  chosen = subst (λ (x : SpeakerState). OncePerPrefix (λ p. (concerns x.conf.exceptions a.payloads new.payloads p ≡ true) × HasRoute x.adj_in p) x.chosen new.chosen) is moves.chosen;
   chosen_before = moves.chosen_before ∙ ap (λ (x : SpeakerState). x.chosen_before) is;
 })
 

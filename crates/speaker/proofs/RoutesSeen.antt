@@ -9,7 +9,7 @@ use Rattle.decision.specs.BookContents.{rows_of}
 use Rattle.net_prefix.specs.declared.prefix.Prefix.{Prefix}
 use Rattle.routes.specs.Linked.{Linked}
 use Rattle.routes.specs.Offers.{AreMadeWhere, Offers}
-use Rattle.routes.specs.RoutesState.{BringsNetwork, IsSet, RoutesState, StaysAsIs, TellsSlot, tables_in}
+use Rattle.routes.specs.RoutesState.{BringsNetwork, IsSet, RoutesState, StaysAsIs, TellsSlot, payloads_in_force, tables_in}
 use Rattle.routes.specs.Tables.{link_at, tables}
 use Rattle.rtr_session.specs.SessionState.{Session as CacheSession}
 use Rattle.speaker.specs.Moves.{Announces, Hands}
@@ -75,8 +75,8 @@ hands_out F config moment cache counted slot l before after (Some taken) old new
 
 -- candidates that were made again, read by what stands before
 pub made_of : (holds : Prefix → Bool) (had has : Offers) (old new : RoutesState) → new ≡ record old { conf = new.conf; book = new.book; chosen = new.chosen } → AreMadeWhere (tables_in new) holds had has
-    → AreMadeWhere (tables new.conf new.payloads old.links old.adj_in) holds had has
-made_of holds had has old new rest made = subst (λ (r : RoutesState). AreMadeWhere (tables new.conf new.payloads r.links r.adj_in) holds had has) rest made
+    → AreMadeWhere (tables new.conf (payloads_in_force new) old.links old.adj_in) holds had has
+made_of holds had has old new rest made = subst (λ (r : RoutesState). AreMadeWhere (tables new.conf (payloads_in_force new) r.links r.adj_in) holds had has) rest made
 
 -- the prefix was a local network already
 pub network_there : (config : Config) (moment : ℕ) (cache : Option CacheSession) (counted before : ℕ) (old new : RoutesState) (conf : Configuration) → new ≡ record old { conf = new.conf } → new.conf ≡ conf → before ≡ old.chosen

@@ -21,7 +21,7 @@ use Rattle.routes.specs.Tables.{link_at, peer_route_at}
 use Rattle.speaker.specs.declared.config.Config.{Config}
 use Rattle.speaker.proofs.Calls.{tables_same}
 use Rattle.speaker.proofs.Events.{begun, holds_begun, put_agrees}
-use Rattle.speaker.proofs.KeptOffers.{hands_keep}
+use Rattle.speaker.proofs.KeptOffers.{hands_keep, in_force_kept}
 use Rattle.speaker.proofs.Passing.{passes_first, agrees_served}
 use Rattle.speaker.proofs.SlotEvents.{with_peer}
 use Rattle.speaker.proofs.SlotOctets.{agrees_handed}
@@ -57,7 +57,7 @@ handed_session slot t l count f linked =
 tables_handed : (slot : ℕ) (l : Linked) (count : ℕ) (old new : SpeakerState) → link_at old.links slot ≡ Some l → Hands slot l count old new → tables_of old ≡ tables_of new
 tables_handed slot l count old new linked hands = λ i. record {
   conf = sym hands.rest.conf i;
-  payloads = sym hands.rest.payloads i;
+  payloads = sym (in_force_kept old new hands.rest.conf hands.rest.payloads) i;
   sessions = λ t. sym (ap (λ x. option_map (λ y. y.peer.session) x) (hands.links t) ∙ handed_session slot t l count (link_at old.links) linked) i;
   routes = λ t p. route_at (sym hands.routes i) t p;
 }

@@ -7,11 +7,11 @@ use Rattle.net_prefix.specs.declared.payload.Vrp.{Vrp}
 use Rattle.net_prefix.specs.declared.prefix.Prefix.{Prefix}
 use Rattle.net_prefix.proofs.PayloadSets.{payload_cmp_exact, payload_cmp_total}
 use Rattle.origin_valid.proofs.Members.{any_inside}
+use Rattle.origin_valid.specs.Touched.{is_touched}
 use Rattle.prefix_trie.specs.CoverWalks.{covers}
-use Rattle.rtr_codec.specs.ClientTable.{in_force}
 use Rattle.rtr_session.specs.SessionHistory as cached
 use Rattle.routes.specs.Updates.{is_among}
-use Rattle.speaker.specs.Choices.{choices_cached_on, is_touched, is_known, named_to}
+use Rattle.speaker.specs.Choices.{choices_cached_on, in_force_with, is_known, named_to}
 use Rattle.routes.specs.Chosen.{how_many}
 use Rattle.speaker.specs.Runs.{Run}
 use Rattle.speaker.specs.declared.config.Config.{Config}
@@ -96,7 +96,7 @@ how_many_twice f g h (p ∷ ps) either =
 
 -- what one of them and another allow, where slots have routes as the run has them
 abbrev pub choices_from : Config → Run → List cached.Event → List cached.Event → ℕ
-choices_from config r k1 k2 = how_many (λ p. is_known config r p && is_touched (in_force (cached.client config.cache_retry k1)) (in_force (cached.client config.cache_retry k2)) p) (named_to config r)
+choices_from config r k1 k2 = how_many (λ p. is_known config r p && is_touched (in_force_with config r k1) (in_force_with config r k2) p) (named_to config r)
 
 routed_twice : (r a b c : Bool) → (a ≡ true → (b || c) ≡ true) → (r && a) ≡ true → ((r && b) || (r && c)) ≡ true
 routed_twice true a b c either is = either is
@@ -109,12 +109,12 @@ routed_none false a is = refl
 pub choices_twice : (config : Config) (r : Run) (k1 k2 k3 : List cached.Event) → choices_from config r k1 k3 ≤ choices_from config r k1 k2 + choices_from config r k2 k3
 choices_twice config r k1 k2 k3 =
     how_many_twice _ _ _ (named_to config r)
-    (λ p is. routed_twice (is_known config r p) _ _ _ (touched_twice (in_force (cached.client config.cache_retry k1)) (in_force (cached.client config.cache_retry k2)) (in_force (cached.client config.cache_retry k3)) p) is)
+    (λ p is. routed_twice (is_known config r p) _ _ _ (touched_twice (in_force_with config r k1) (in_force_with config r k2) (in_force_with config r k3) p) is)
 
-pub choices_none : (config : Config) (r : Run) (k1 k2 : List cached.Event) → in_force (cached.client config.cache_retry k2) ≡ in_force (cached.client config.cache_retry k1) → choices_from config r k1 k2 ≡ 0
+pub choices_none : (config : Config) (r : Run) (k1 k2 : List cached.Event) → in_force_with config r k2 ≡ in_force_with config r k1 → choices_from config r k1 k2 ≡ 0
 choices_none config r k1 k2 same =
     none_held _ (named_to config r)
-    (λ p. routed_none (is_known config r p) _ (ap (λ x. is_touched (in_force (cached.client config.cache_retry k1)) x p) same ∙ untouched (in_force (cached.client config.cache_retry k1)) p))
+    (λ p. routed_none (is_known config r p) _ (ap (λ x. is_touched (in_force_with config r k1) x p) same ∙ untouched (in_force_with config r k1) p))
 
 -- octets one after another
 pub choices_octets : (config : Config) (r : Run) (octets : List ℕ) (k : List cached.Event) → choices_from config r k (cached.onto octets k) ≤ choices_cached_on config r octets k

@@ -1,9 +1,10 @@
 -- What stands behind a row.
-use Rattle.std.proofs.Common.{◌≡◌, ◌&&◌, Bool, true, false, cond, List, [], ◌∷◌, Option, Some, None, filter, refl, ap}
+use Rattle.std.proofs.Common.{◌≡◌, ◌&&◌, Bool, true, false, cond, List, [], ◌∷◌, Option, Some, None, filter, refl, ap, ◌∙◌}
 use Rattle.std.proofs.lemmas.List.Kept.{IsStrictlySortedBy-filter}
 use Rattle.std.specs.BTreeMap.Range.{range_contains}
 use Rattle.std.specs.Ordering.{is_lt}
 use Rattle.std.specs.declared.ops.Bound.TheVariants.{Excluded, Unbounded}
+use Rattle.local_exceptions.specs.ExceptionSets.{ExceptionSets, under}
 use Rattle.net_prefix.specs.PayloadOrder.{payload_cmp}
 use Rattle.net_prefix.specs.PayloadSets.{IsPayloadSet}
 use Rattle.net_prefix.specs.declared.payload.Vrp.{Vrp}
@@ -15,10 +16,6 @@ use Rattle.speaker.specs.Shown.{payloads_behind}
 pub none_after : {X : Type 0} (after : Option Prefix) → [] ≡ all_after {V = X} after []
 none_after None = refl
 none_after (Some p) = refl
-
-pub no_payloads_behind : (after : Option Vrp) → [] ≡ payloads_behind after []
-no_payloads_behind None = refl
-no_payloads_behind (Some last) = refl
 
 -- a range without bounds is the whole set
 pub all_members : (set : List Vrp) → filter (range_contains payload_cmp Unbounded Unbounded) set ≡ set
@@ -37,3 +34,7 @@ members_above last (member ∷ set) =
 
 pub rising_members : (last : Vrp) (set : List Vrp) → IsPayloadSet set → IsPayloadSet (payloads_behind (Some last) set)
 rising_members last set rising = IsStrictlySortedBy-filter payload_cmp (λ member. is_lt (payload_cmp last member)) set rising
+
+-- payloads in force behind a row, of the same exceptions and the same loaded payloads
+pub in_force_as : (after : Option Vrp) (e f : ExceptionSets) (one two rows : List Vrp) → rows ≡ payloads_behind after (under e one) → e ≡ f → one ≡ two → rows ≡ payloads_behind after (under f two)
+in_force_as after e f one two rows is exceptions loaded = is ∙ (λ i. payloads_behind after (under (exceptions i) (loaded i)))

@@ -1,9 +1,9 @@
 -- How often a best route may be chosen, by what comes and goes (own, for RFC 4271 section 9.1).
 use Rattle.std.specs.Prelude.{◌+◌, ◌&&◌, ◌||◌, ℕ, zero, suc, Bool, List, [], ◌∷◌, ◌++◌, Option, Some, None, is_some, false, if◌then◌else◌}
-use Rattle.std.specs.List.{list_any}
+use Rattle.bgp_conf.specs.ConfAfter.{conf_after}
 use Rattle.bgp_conf.specs.Configuration.{is_network}
 use Rattle.bgp_conf.specs.declared.command.Command.{Command}
-use Rattle.bgp_conf.specs.declared.command.Command.TheVariants.{AddPeer, RemovePeer, Enable, Disable, SetPolicy, DropPolicy, UseIn, UseOut, Network, NoNetwork, Reach, NoReach}
+use Rattle.bgp_conf.specs.declared.command.Command.TheVariants.{AddPeer, RemovePeer, Enable, Disable, SetPolicy, DropPolicy, UseIn, UseOut, Network, NoNetwork, Reach, NoReach, Filter, NoFilter, Assert, NoAssert}
 use Rattle.bgp_fsm.specs.StateTests.{is_established}
 use Rattle.bgp_fsm.specs.declared.input.Input.TheVariants.{Start, Disable as Disabled, Remove as Removed, Up, Fail, NoMemory, Expires}
 use Rattle.bgp_fsm.specs.declared.timers.Timer.{Timer}
@@ -13,16 +13,16 @@ use Rattle.bgp_peer.specs.SessionInputs as slot
 use Rattle.bgp_peer.specs.SessionInputs.{Octet, Signalled, Ticked, ending, onto, session, timers}
 use Rattle.net_prefix.specs.declared.payload.Vrp.{Vrp}
 use Rattle.net_prefix.specs.declared.prefix.Prefix.{Prefix}
-use Rattle.prefix_trie.specs.CoverWalks.{covers}
+use Rattle.origin_valid.specs.Touched.{is_touched}
 use Rattle.rtr_codec.specs.ClientTable.{in_force}
 use Rattle.rtr_session.specs.SessionHistory as cache
 use Rattle.speaker.specs.AdjRibIn.{brought, route}
 use Rattle.routes.specs.Updates.{is_among}
 use Rattle.speaker.specs.Queueing.{Queue, Service, Tells, Starves}
-use Rattle.speaker.specs.Runs.{Call, Run, turn, Up_call, Fail_call, Bytes_call, Starved_call, Tick_call, Command_call, Take_call, Cache_up_call, Cache_fail_call, Cache_bytes_call, Cache_starved_call, Cache_take_call, cache_history, configuration_of, history}
-use Rattle.vrp_delta.specs.Delta.{lacked}
+use Rattle.speaker.specs.Runs.{Call, Run, turn, Up_call, Fail_call, Bytes_call, Starved_call, Tick_call, Command_call, Take_call, Cache_up_call, Cache_fail_call, Cache_bytes_call, Cache_starved_call, Cache_take_call, cache_history, configuration_of, history, loaded_after, payloads_after}
 use Rattle.speaker.specs.declared.config.Config.{Config}
 use Rattle.routes.specs.Chosen.{how_many, named_if, announced_if}
+use Rattle.routes.specs.Tables.{payloads_under}
 
 -- the prefixes that the slot's peer has announced, each as often as it did
 abbrev pub announced_in : List slot.Event → List Prefix
@@ -71,20 +71,25 @@ abbrev pub choices_to : (ℕ → List slot.Event) → ℕ → ℕ → ℕ
 choices_to histories now zero = 0
 choices_to histories now (suc s) = choices_endings timers now (Ticked now ∷ histories s) + choices_to histories now s
 
--- the payloads that come or go from one set to another, the covering of a prefix by one of them
-abbrev pub is_touched : List Vrp → List Vrp → Prefix → Bool
-is_touched before after prefix = list_any (λ payload. covers payload.prefix prefix) (lacked before after ++ lacked after before)
+-- the payloads in force where the cache session has this history, under the local exceptions that stand after the run
+abbrev pub in_force_with : Config → Run → List cache.Event → List Vrp
+in_force_with config r h = payloads_under (configuration_of config r) (in_force (cache.client config.cache_retry h))
 
 -- for what happens to the cache session, coming next: once for each known prefix that is covered by a payload which came into
 -- force or went
 abbrev pub choices_cached : Config → Run → List cache.Event → cache.Event → ℕ
 choices_cached config r h e =
-    how_many (λ p. is_known config r p && is_touched (in_force (cache.client config.cache_retry h)) (in_force (cache.client config.cache_retry (e ∷ h))) p) (named_to config r)
+    how_many (λ p. is_known config r p && is_touched (in_force_with config r h) (in_force_with config r (e ∷ h)) p) (named_to config r)
 
 -- for octets that come to it, one after another
 abbrev pub choices_cached_on : Config → Run → List ℕ → List cache.Event → ℕ
 choices_cached_on config r [] h = 0
 choices_cached_on config r (octet ∷ octets) h = choices_cached config r h (cache.Octet octet) + choices_cached_on config r octets (cache.Octet octet ∷ h)
+
+-- for a command of local exceptions: once for each known prefix that is covered by a payload which came into force or went
+abbrev pub choices_excepted : Config → Run → Command → ℕ
+choices_excepted config r command =
+    how_many (λ p. is_known config r p && is_touched (payloads_after config r) (payloads_under (conf_after (configuration_of config r) command) (loaded_after config r)) p) (named_to config r)
 
 -- for a command: what enabling a peer (which ends no session), disabling or removing it is to its session, for the rules of a
 -- policy and an entry of `reach` that comes or goes once for each known prefix, for another import policy once for each prefix
@@ -102,6 +107,10 @@ choices_commanded config r (Network prefix) = 1
 choices_commanded config r (NoNetwork prefix) = 1
 choices_commanded config r (Reach prefix cost) = how_many (is_known config r) (named_to config r)
 choices_commanded config r (NoReach prefix) = how_many (is_known config r) (named_to config r)
+choices_commanded config r (Filter prefix asn) = choices_excepted config r (Filter prefix asn)
+choices_commanded config r (NoFilter prefix asn) = choices_excepted config r (NoFilter prefix asn)
+choices_commanded config r (Assert prefix max_len asn) = choices_excepted config r (Assert prefix max_len asn)
+choices_commanded config r (NoAssert prefix max_len asn) = choices_excepted config r (NoAssert prefix max_len asn)
 
 -- for a call, up to its end: for want of memory in the place of an UPDATE, which ends the session, once for each prefix to which
 -- there was a route; none for octets of a slot that are handed out. Those of the cache session leave the choices of the

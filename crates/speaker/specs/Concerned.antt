@@ -1,7 +1,7 @@
 -- Which sessions a call is for (our own).
 use Rattle.std.specs.Prelude.{ℕ, Bool, true, false, ◌==◌}
 use Rattle.bgp_conf.specs.declared.command.Command.{Command}
-use Rattle.bgp_conf.specs.declared.command.Command.TheVariants.{AddPeer, RemovePeer, Enable, Disable, SetPolicy, DropPolicy, UseIn, UseOut, Network, NoNetwork, Reach, NoReach}
+use Rattle.bgp_conf.specs.declared.command.Command.TheVariants.{AddPeer, RemovePeer, Enable, Disable, SetPolicy, DropPolicy, UseIn, UseOut, Network, NoNetwork, Reach, NoReach, Filter, NoFilter, Assert, NoAssert}
 use Rattle.speaker.specs.Runs.{Call, Up_call, Fail_call, Bytes_call, Starved_call, Tick_call, Command_call, Take_call, Cache_up_call, Cache_fail_call, Cache_bytes_call, Cache_starved_call, Cache_take_call}
 
 -- the command is for the session of the slot
@@ -18,6 +18,10 @@ is_command_for (Network prefix) s = false
 is_command_for (NoNetwork prefix) s = false
 is_command_for (Reach prefix cost) s = false
 is_command_for (NoReach prefix) s = false
+is_command_for (Filter prefix asn) s = false
+is_command_for (NoFilter prefix asn) s = false
+is_command_for (Assert prefix max_len asn) s = false
+is_command_for (NoAssert prefix max_len asn) s = false
 
 -- the call is for the session of the slot: a tick is for that of every slot, and what comes to the cache session for none
 abbrev pub is_call_for : Call → ℕ → Bool

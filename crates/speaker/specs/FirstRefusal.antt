@@ -8,7 +8,7 @@ use Rattle.bgp_conf.specs.declared.refusal.Refusal.TheVariants.{BadSlot, ClockBa
 use Rattle.bgp_conf.specs.ConfAfter.{TakesMemory}
 use Rattle.bgp_conf.specs.Configuration.{Configuration}
 use Rattle.bgp_conf.specs.declared.command.Command.{Command}
-use Rattle.bgp_conf.specs.declared.command.Command.TheVariants.{AddPeer, RemovePeer, Enable, Disable, SetPolicy, DropPolicy, UseIn, UseOut, Network, NoNetwork, Reach, NoReach}
+use Rattle.bgp_conf.specs.declared.command.Command.TheVariants.{AddPeer, RemovePeer, Enable, Disable, SetPolicy, DropPolicy, UseIn, UseOut, Network, NoNetwork, Reach, NoReach, Filter, NoFilter, Assert, NoAssert}
 use Rattle.bgp_conf.specs.FirstRefusal.{first_refusal}
 use Rattle.bgp_fsm.specs.Transports.{is_closing, transport_of}
 use Rattle.bgp_peer.specs.SessionInputs.{is_there}
@@ -84,6 +84,10 @@ closing_for t (Network prefix) = 0
 closing_for t (NoNetwork prefix) = 0
 closing_for t (Reach prefix cost) = 0
 closing_for t (NoReach prefix) = 0
+closing_for t (Filter prefix asn) = 0
+closing_for t (NoFilter prefix asn) = 0
+closing_for t (Assert prefix max_len asn) = 0
+closing_for t (NoAssert prefix max_len asn) = 0
 
 -- the first refusal of an event by the moment, the transport of the cache session, the configuration and the sessions
 abbrev pub refusal_by : ℕ → Option Transport → Tables → Event → Option Refusal

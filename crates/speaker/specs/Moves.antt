@@ -20,7 +20,7 @@ use Rattle.speaker.specs.Chosen.{ChoosesHeard}
 use Rattle.routes.specs.Chosen.{Ends}
 use Rattle.routes.specs.Linked.{Linked, moved}
 use Rattle.routes.specs.Offers.{AreKept}
-use Rattle.speaker.specs.SpeakerState.{SpeakerState, tables_of}
+use Rattle.speaker.specs.SpeakerState.{SpeakerState, in_force_of, tables_of}
 use Rattle.routes.specs.Tables.{link_at}
 
 -- the slot becomes another, and no other slot changes
@@ -61,7 +61,7 @@ pub record Forgets (slot : ℕ) (old new : SpeakerState) : Type 0 where
 -- a local network comes: its route, with the candidate that it makes, and nothing else changes
 pub record Announces (network : Prefix) (old new : SpeakerState) : Type 0 where
   pub routes : (s : ℕ) (p : Prefix) → route_at new.adj_in s p ≡ (if is_route LOCAL_SLOT network s p then Some originated else route_at old.adj_in s p)
-  pub offers : (s : ℕ) (p : Prefix) → offer_at new.book s p ≡ (if is_route LOCAL_SLOT network s p then Some (network_at old.conf.own old.payloads originated network) else offer_at old.book s p)
+  pub offers : (s : ℕ) (p : Prefix) → offer_at new.book s p ≡ (if is_route LOCAL_SLOT network s p then Some (network_at old.conf.own (in_force_of old) originated network) else offer_at old.book s p)
   pub links : new.links ≡ old.links
   pub conf : new.conf ≡ old.conf
   pub config : new.config ≡ old.config

@@ -1,9 +1,11 @@
 -- The calls of a speaker, and what they are to each slot and to the cache session. A run has the newest call first.
 use Rattle.std.specs.Prelude.{ℕ, zero, suc, ◌==◌, ◌^◌, ◌&&◌, ◌||◌, bit_or, Bool, List, [], ◌∷◌, ◌++◌, false, true, if◌then◌else◌}
 use Rattle.bgp_conf.specs.Configuration.{Configuration}
+use Rattle.local_exceptions.specs.ExceptionSets.{no_exceptions}
+use Rattle.routes.specs.Tables.{payloads_under}
 use Rattle.bgp_conf.specs.ConfAfter.{conf_after, configured_of}
 use Rattle.bgp_conf.specs.declared.command.Command.{Command}
-use Rattle.bgp_conf.specs.declared.command.Command.TheVariants.{AddPeer, RemovePeer, Enable, Disable, SetPolicy, DropPolicy, UseIn, UseOut, Network, NoNetwork, Reach, NoReach}
+use Rattle.bgp_conf.specs.declared.command.Command.TheVariants.{AddPeer, RemovePeer, Enable, Disable, SetPolicy, DropPolicy, UseIn, UseOut, Network, NoNetwork, Reach, NoReach, Filter, NoFilter, Assert, NoAssert}
 use Rattle.bgp_conf.specs.declared.conf.ConfiguredPeer.{ConfiguredPeer}
 use Rattle.bgp_fsm.specs.declared.input.Input.TheVariants.{Start, Disable as Disabled, Remove as Removed, Up, Fail, NoMemory, Expires}
 use Rattle.bgp_fsm.specs.declared.timers.Timer.{Timer}
@@ -122,7 +124,7 @@ conf_called (Cache_take_call octets) conf = conf
 
 -- the configuration after a run
 abbrev pub configuration_of : Config → Run → Configuration
-configuration_of config [] = record { own = config.asn; peers = []; policies = []; networks = []; reach = [] }
+configuration_of config [] = record { own = config.asn; peers = []; policies = []; networks = []; reach = []; exceptions = no_exceptions }
 configuration_of config (now ∷ r) = conf_called now.call (configuration_of config r)
 
 -- what a call makes of the moment
@@ -165,9 +167,13 @@ abbrev pub cache_history : Run → List cache.Event
 cache_history [] = []
 cache_history (now ∷ r) = cache_called now.call (cache_history r)
 
--- the payloads in force after a run
+-- the payloads that the cache session has loaded after a run: the last completed, unflushed and unexpired load
+abbrev pub loaded_after : Config → Run → List Vrp
+loaded_after config r = in_force (cache.client config.cache_retry (cache_history r))
+
+-- the payloads in force after a run: those, under the local exceptions (RFC 8416 section 3)
 abbrev pub payloads_after : Config → Run → List Vrp
-payloads_after config r = in_force (cache.client config.cache_retry (cache_history r))
+payloads_after config r = payloads_under (configuration_of config r) (loaded_after config r)
 
 -- the terms of a peer's session
 abbrev pub terms_in : Config → ConfiguredPeer → Terms
@@ -191,6 +197,10 @@ commanded config s (Network prefix) h = h
 commanded config s (NoNetwork prefix) h = h
 commanded config s (Reach prefix cost) h = h
 commanded config s (NoReach prefix) h = h
+commanded config s (Filter prefix asn) h = h
+commanded config s (NoFilter prefix asn) h = h
+commanded config s (Assert prefix max_len asn) h = h
+commanded config s (NoAssert prefix max_len asn) h = h
 
 -- what a call is to a slot; want of memory stands in the place of the UPDATE to which memory was refused
 abbrev pub called : Config → ℕ → Call → List slot.Event → List slot.Event
@@ -246,6 +256,10 @@ opened_commanded config r (Network prefix) = 0
 opened_commanded config r (NoNetwork prefix) = 0
 opened_commanded config r (Reach prefix cost) = 0
 opened_commanded config r (NoReach prefix) = 0
+opened_commanded config r (Filter prefix asn) = 0
+opened_commanded config r (NoFilter prefix asn) = 0
+opened_commanded config r (Assert prefix max_len asn) = 0
+opened_commanded config r (NoAssert prefix max_len asn) = 0
 
 -- those whose attempt begins in a call. No other input of a session begins one
 abbrev pub opened_by : Config → Run → Call → ℕ

@@ -1,5 +1,7 @@
 -- What operators see of the tables.
-use Rattle.std.specs.Prelude.{ℕ, ◌==◌, List, [], Option, Some, None, filter, unwrap_or, if◌then◌else◌}
+use Rattle.std.specs.Borrow.{Bor}
+use Rattle.std.specs.BTreeSet.{BTreeSet}
+use Rattle.std.specs.Prelude.{ℕ, ◌==◌, List, [], ◌∷◌, Option, Some, None, filter, unwrap_or, if◌then◌else◌}
 use Rattle.std.specs.Option.{option_map}
 use Rattle.std.specs.Ordering.{is_lt}
 use Rattle.bgp_fsm.specs.Transports.{transport_of}
@@ -57,6 +59,22 @@ cache_state_after config r = if config.cache then Some (state_of (client config.
 -- a transport; where there is no session there is none
 abbrev pub transport_or_none : Option Transport → Transport
 transport_or_none found = unwrap_or found NoConnection
+
+-- the payloads of a set that may be there
+abbrev pub keys_if : Option (Bor (BTreeSet Vrp)) → List Vrp
+keys_if None = []
+keys_if (Some set) = set.now.keys
+
+-- the first of a list, if it has one
+abbrev pub first_of : List Vrp → Option Vrp
+first_of [] = None
+first_of (payload ∷ payloads) = Some payload
+
+-- the less of two, if there are any; the first of those at one place
+abbrev pub least_of : Option Vrp → Option Vrp → Option Vrp
+least_of None b = b
+least_of (Some a) None = Some a
+least_of (Some a) (Some b) = if is_lt (payload_cmp b a) then Some b else Some a
 
 -- the payloads above one, or all
 abbrev pub payloads_behind : Option Vrp → List Vrp → List Vrp

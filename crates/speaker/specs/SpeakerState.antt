@@ -3,6 +3,7 @@ use Rattle.std.specs.Prelude.{◌≡◌, ◌==◌, ◌||◌, not, ℕ, List, Boo
 use Rattle.bgp_conf.specs.Configuration.{Configuration}
 use Rattle.decision.specs.BookContents.{BookState, offer_at}
 use Rattle.decision.specs.declared.candidate.Candidate.{Candidate}
+use Rattle.local_exceptions.specs.ExceptionSets.{no_exceptions}
 use Rattle.net_prefix.specs.declared.payload.Vrp.{Vrp}
 use Rattle.net_prefix.specs.declared.prefix.Prefix.{Prefix}
 use Rattle.rib_in.specs.LatestRoutes.{RouteTable, route_at}
@@ -11,10 +12,10 @@ use Rattle.rtr_session.specs.SessionState.{Session as CacheSession, configured}
 use Rattle.speaker.specs.SlotTimes.{are_lawful, is_retry}
 use Rattle.speaker.specs.declared.config.Config.{Config}
 use Rattle.routes.specs.Linked.{Linked}
-use Rattle.routes.specs.Tables.{Tables, tables, link_at}
+use Rattle.routes.specs.Tables.{Tables, payloads_under, tables, link_at}
 
--- what others see of a speaker: its settings, the moment, the configured tables, the cache session, the payloads in
--- force, its slots, Adj-RIB-In,
+-- what others see of a speaker: its settings, the moment, the configured tables, the cache session, the payloads that
+-- it has loaded, its slots, Adj-RIB-In,
 -- the candidates that are kept, Loc-RIB, how often a best route was chosen so far (a count that stays at 2^64 - 1 where it has
 -- reached it), and how often before the last step or take that wasn't refused
 pub record SpeakerState : Type 0 where
@@ -30,16 +31,20 @@ pub record SpeakerState : Type 0 where
   pub chosen : ℕ
   pub chosen_before : ℕ
 
+-- the payloads in force: those that are loaded, under the local exceptions
+abbrev pub in_force_of : SpeakerState → List Vrp
+in_force_of s = payloads_under s.conf s.payloads
+
 -- what the selection reads
 abbrev pub tables_of : SpeakerState → Tables
-tables_of s = tables s.conf s.payloads s.links s.adj_in
+tables_of s = tables s.conf (in_force_of s) s.links s.adj_in
 
 -- a speaker without peers, before any tick
 abbrev pub started : Config → SpeakerState
 started config = record {
   config = config;
   moment = 0;
-  conf = record { own = config.asn; peers = []; policies = []; networks = []; reach = [] };
+  conf = record { own = config.asn; peers = []; policies = []; networks = []; reach = []; exceptions = no_exceptions };
   cache = if config.cache then Some (configured config.cache_retry) else None;
   payloads = [];
   links = [];
@@ -54,7 +59,7 @@ started config = record {
 abbrev pub is_out_of_range : Config → Bool
 is_out_of_range config = config.asn.0 == 0 || config.identifier == 0 || not (are_lawful config.timers) || not (is_retry config.cache_retry)
 
--- the payloads in force of a cache session; none where there is no session
+-- the payloads that a cache session has loaded; none where there is no session
 abbrev pub payloads_in : Option CacheSession → List Vrp
 payloads_in None = []
 payloads_in (Some session) = in_force session.client

@@ -7,7 +7,7 @@ ghost use Rattle.routes.specs.Tables.{peer_route_at};
 ghost use Rattle.speaker.specs.AdjRibIn.{route};
 ghost use Rattle.speaker.specs.Agreement.{Agrees, tables_after};
 ghost use Rattle.speaker.specs.Runs.{Run, configuration_of, history, payloads_after};
-ghost use Rattle.speaker.specs.SpeakerState.{tables_of};
+ghost use Rattle.speaker.specs.SpeakerState.{in_force_of, tables_of};
 ghost use Rattle.speaker.specs.declared.config.Config.{Config};
 
 use crate::step::Speaker;
@@ -66,14 +66,14 @@ impl<A: Allocator + Clone, B: Book<A>> Speaker<A, B> {
 
     /// The state of a route of this origin AS to a prefix in the payloads in force (RFC 6811 section 2).
     pub fn state(&self, prefix: Prefix, origin: Option<Asn>) -> Validity
-        ensures kept { result ≡ validity self.now.payloads prefix origin }
+        ensures kept { result ≡ validity (in_force_of self.now) prefix origin }
         ensures agrees { (config : Config) (r : Run) → Agrees config r self.now → result ≡ validity (payloads_after config r) prefix origin }
     {
         self.state_in_force(prefix, origin)
     }
 
     fn state_in_force(&self, prefix: Prefix, origin: Option<Asn>) -> Validity
-        ensures { result ≡ validity self.now.payloads prefix origin }
+        ensures { result ≡ validity (in_force_of self.now) prefix origin }
     {
         self.routes.state(prefix, origin)
     }

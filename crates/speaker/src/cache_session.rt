@@ -1,5 +1,5 @@
 //! What happens to the cache session: its connection stands or fails, octets and moments come, octets are handed out. Where
-//! the payloads in force change, the routes that this concerns are judged again.
+//! the loaded payloads change, the routes that this concerns are judged again, behind the local exceptions.
 ghost use Rattle.std.specs.Prelude.{◌≡◌, ◌≢◌, ◌≤◌, ◌<◌, ◌++◌, ℕ, List, [], ◌∷◌, Some, None, IfOk, false, true, if◌then◌else◌, length, min, take, drop};
 ghost use Rattle.std.specs.Option.{IsSome};
 ghost use Rattle.bgp_peer.specs.SessionInputs.{Ticked};
@@ -111,7 +111,7 @@ impl<A: Allocator + Clone, B: Book<A>> Speaker<A, B> {
         (heard.count, heard.starved)
     }
 
-    // Judges the routes again that the last change of the payloads in force concerns.
+    // Judges the routes again that the last change of the loaded payloads concerns, behind the local exceptions.
     fn choose_touched(&mut self)
         ensures touched { (before : List ThePayload) → last_change self.old.cache ≡ change_between before self.old.payloads → RevalidatesFrom before self.old self.new }
         ensures keeps { KeepsCache self.old self.new }

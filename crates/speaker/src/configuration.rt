@@ -80,6 +80,14 @@ impl<A: Allocator + Clone, B: Book<A>> Speaker<A, B> {
             }
             Command::Reach(_, _) => self.resolve(command),
             Command::NoReach(_) => self.resolve(command),
+            Command::Filter(prefix, asn) => self.turn_filter(command, prefix, asn),
+            Command::NoFilter(prefix, asn) => self.turn_filter(command, prefix, asn),
+            Command::Assert(prefix, max_len, asn) => {
+                self.turn_assertion(command, prefix, max_len, asn)
+            }
+            Command::NoAssert(prefix, max_len, asn) => {
+                self.turn_assertion(command, prefix, max_len, asn)
+            }
         }
     }
 

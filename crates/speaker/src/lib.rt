@@ -12,12 +12,12 @@
 //! what it is: octets are cut into messages and each is taken whole (`hear`, `take_message`: what it is to the session, and
 //! what its UPDATE makes of the routes, is said by `Routes::judge_front`); a session takes an input, and its routes follow
 //! (`input`); what comes to the cache session changes payloads, and the routes that they concern are judged again
-//! (`choose_touched`); a command changes the tables (`obey`). At the end of each call the peers are queued what they are
+//! (`choose_touched`); a command changes the tables (`obey`), one of local exceptions the payloads in force too. At the end of each call the peers are queued what they are
 //! owed, slot by slot in rising order (`queue_updates`); where memory is refused to that, the slot's session is closed and
 //! the pass begins again.
 //!
-//! **What holds when.** Between calls and in their midst: routes are judged by the payloads that the cache session has in
-//! force (the type's invariant; that of `Routes` has the rest). After each thing that happens in a call: all is as the run
+//! **What holds when.** Between calls and in their midst: routes are judged by the payloads that the cache session has
+//! loaded, under the local exceptions (the type's invariant; that of `Routes` has the rest). After each thing that happens in a call: all is as the run
 //! with what the call has done so far leaves it (`Holds`). After the call: Loc-RIB is the selection, and where a ring has
 //! room its peer holds its export (`Agrees`).
 //!
@@ -30,7 +30,9 @@ mod cache_session;
 mod config;
 mod configuration;
 mod event;
+mod exceptions;
 mod laws;
+mod payloads;
 mod queue;
 mod runs;
 mod sessions;
@@ -51,8 +53,9 @@ pub use laws::{
 };
 pub use net_prefix::Transport;
 pub use origin_valid::Validity;
+pub use payloads::Payloads;
 pub use routes::{WaitingAfter, WaitingPrefixes};
 pub use rtr_client::ClientState;
 pub use runs::{Trace, run};
 pub use step::Speaker;
-pub use views::{AdjRibIn, BestRoute, HeldRoutes, LocRib, Payloads};
+pub use views::{AdjRibIn, BestRoute, HeldRoutes, LocRib};

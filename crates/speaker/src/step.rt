@@ -58,7 +58,7 @@ impl<A: Allocator + Clone, B: Book<A>> Model for Speaker<A, B> {
       chosen_before = s.chosen_before;
     } };
 
-    // Routes are judged by the payloads in force.
+    // The loaded payloads are those of the cache session.
     ghost invariant = { λ s. s.routes.payloads ≡ payloads_in s.cache };
 }
 

@@ -18,14 +18,14 @@ ghost use Rattle.speaker.specs.Held.{held};
 ghost use Rattle.speaker.specs.FirstRefusal.{cache_transport_after, cache_transport_of};
 ghost use Rattle.speaker.specs.Runs.{Run, history, payloads_after};
 ghost use Rattle.speaker.specs.declared.config.Config.{Config};
-ghost use Rattle.speaker.specs.SpeakerState.{tables_of};
+ghost use Rattle.speaker.specs.SpeakerState.{in_force_of, tables_of};
 ghost use Rattle.routes.specs.Tables.{configured_session, link_at, peer_route_at, session_at};
 ghost use Rattle.speaker.specs.Shown.{cache_state_after, cache_state_of, held_by, received_by, shown_of, transport_at, transport_or_none};
 ghost use Rattle.speaker.specs.Waiting.{IsWaitingIn, waiting_of};
 ghost use Rattle.bgp_peer.specs.PeerLimits.{ring_octets, room_for_update};
 
+use crate::payloads::Payloads;
 use crate::step::Speaker;
-use crate::views_after::members_after;
 use bgp_attr::Attrs;
 use bgp_fsm::State;
 use decision::{Book, LOCAL_SLOT};
@@ -37,7 +37,6 @@ use rib_in::SlotRoutes;
 use routes::WaitingPrefixes;
 use rtr_client::ClientState;
 use std::alloc::{Allocator, Global};
-use std::collections::btree_set;
 use std::marker::Model;
 
 /// A row of Loc-RIB: a prefix, the slot of its best route, that route's state (RFC 6811 section 2) and its degree of
@@ -81,39 +80,6 @@ impl<A: Allocator + Clone, B: Book<A>> Iterator for LocRib<'_, A, B> {
             validity: route.validity,
             degree: route.degree,
         })
-    }
-}
-
-/// The payloads in force in rising order.
-#[derive(Drop)]
-pub struct Payloads<'a> {
-    pub(crate) payloads: Option<btree_set::Range<'a, Vrp>>,
-}
-
-impl<'a> Model for Payloads<'a> {
-    ghost use Rattle.std.specs.Prelude.{List, [], unwrap_or};
-    ghost use Rattle.net_prefix.specs.declared.payload.Vrp.{Vrp};
-
-    ghost Value = { List Vrp };
-
-    ghost view = { λ payloads. unwrap_or payloads.payloads [] };
-}
-
-impl Iterator for Payloads<'_> {
-    type Item = Vrp;
-
-    ghost next_gives = { YieldsFirst (λ rest. rest) };
-
-    ghost remaining = { item_count (λ rest. rest) };
-
-    fn next(&mut self) -> Option<Vrp> {
-        match &mut self.payloads {
-            Some(payloads) => match payloads.next() {
-                Some(payload) => Some(*payload),
-                None => None,
-            },
-            None => None,
-        }
     }
 }
 
@@ -249,25 +215,20 @@ impl<A: Allocator + Clone, B: Book<A>> Speaker<A, B> {
     }
 
     /// The payloads in force in rising order.
-    pub fn payloads(&self) -> Payloads<'_>
+    pub fn payloads(&self) -> Payloads<'_, A>
         // Each once.
         ensures rising { IsPayloadSet result }
-        ensures kept { result ≡ self.now.payloads }
+        ensures kept { result ≡ in_force_of self.now }
         ensures agrees { (config : Config) (r : Run) → Agrees config r self.now → result ≡ payloads_after config r }
     {
         self.payload_rows()
     }
 
-    fn payload_rows(&self) -> Payloads<'_>
-        ensures all { result ≡ self.now.payloads }
+    fn payload_rows(&self) -> Payloads<'_, A>
+        ensures all { result ≡ in_force_of self.now }
         ensures rising { IsPayloadSet result }
     {
-        match &self.cache {
-            Some(session) => Payloads {
-                payloads: Some(members_after(session.payloads(), None)),
-            },
-            None => Payloads { payloads: None },
-        }
+        self.payloads_behind(None)
     }
 
     /// The state of the cache session; none where there is no such session.

@@ -8,16 +8,16 @@ ghost use Rattle.prefix_trie.specs.TrieWalks.{all_after};
 ghost use Rattle.routes.specs.Tables.{link_at};
 ghost use Rattle.rib_out.specs.PrefixRows.{prefixes_after};
 ghost use Rattle.speaker.specs.Shown.{held_by, payloads_behind, received_by};
+ghost use Rattle.speaker.specs.SpeakerState.{in_force_of};
 ghost use Rattle.speaker.specs.Waiting.{waiting_of};
 
+use crate::payloads::Payloads;
 use crate::step::Speaker;
-use crate::views::{AdjRibIn, HeldRoutes, LocRib, Payloads};
+use crate::views::{AdjRibIn, HeldRoutes, LocRib};
 use decision::{Book, LOCAL_SLOT};
 use net_prefix::{Prefix, Vrp};
 use routes::WaitingAfter;
 use std::alloc::Allocator;
-use std::collections::{BTreeSet, btree_set};
-use std::ops::Bound;
 
 impl<A: Allocator + Clone, B: Book<A>> Speaker<A, B> {
     /// The rows of Loc-RIB above the given prefix, or all, in rising order.
@@ -73,34 +73,11 @@ impl<A: Allocator + Clone, B: Book<A>> Speaker<A, B> {
     }
 
     /// The payloads in force above the given one, or all, in rising order.
-    pub fn payloads_after(&self, after: Option<Vrp>) -> Payloads<'_>
+    pub fn payloads_after(&self, after: Option<Vrp>) -> Payloads<'_, A>
         // Each once.
         ensures rising { IsPayloadSet result }
-        ensures kept { result ≡ payloads_behind after self.now.payloads }
+        ensures kept { result ≡ payloads_behind after (in_force_of self.now) }
     {
-        match &self.cache {
-            Some(session) => Payloads {
-                payloads: Some(members_after(session.payloads(), after)),
-            },
-            None => Payloads { payloads: None },
-        }
-    }
-}
-
-// The payloads of a set above the given one, or all.
-pub(crate) fn members_after<A: Allocator>(
-    set: &BTreeSet<Vrp, A>,
-    after: Option<Vrp>,
-) -> btree_set::Range<'_, Vrp>
-    requires { IsPayloadSet set.now.keys }
-    ensures all { result ≡ payloads_behind after set.now.keys }
-    ensures rising { IsPayloadSet result }
-{
-    match after {
-        Some(payload) => set.range((Bound::Excluded(payload), Bound::Unbounded)),
-        None => {
-            let all: (Bound<Vrp>, Bound<Vrp>) = (Bound::Unbounded, Bound::Unbounded);
-            set.range(all)
-        }
+        self.payloads_behind(after)
     }
 }

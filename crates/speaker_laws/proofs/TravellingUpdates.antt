@@ -9,7 +9,7 @@ use Rattle.bgp_attr.specs.declared.peer.PeerKind.{PeerKind}
 use Rattle.bgp_attr.proofs.Travelling.{kept_all_travel}
 use Rattle.bgp_conf.specs.Configuration.{Configuration, is_network}
 use Rattle.bgp_conf.specs.declared.command.Command.{Command}
-use Rattle.bgp_conf.specs.declared.command.Command.TheVariants.{AddPeer, RemovePeer, Enable, Disable, SetPolicy, DropPolicy, UseIn, UseOut, Network, NoNetwork, Reach, NoReach}
+use Rattle.bgp_conf.specs.declared.command.Command.TheVariants.{AddPeer, RemovePeer, Enable, Disable, SetPolicy, DropPolicy, UseIn, UseOut, Network, NoNetwork, Reach, NoReach, Filter, NoFilter, Assert, NoAssert}
 use Rattle.bgp_fsm.specs.SessionTable.{effects_of}
 use Rattle.bgp_fsm.specs.StateTests.{is_established}
 use Rattle.bgp_fsm.specs.TimerMoments.{has_ended}
@@ -252,6 +252,10 @@ commanded_adds config s (Network prefix) h all = all
 commanded_adds config s (NoNetwork prefix) h all = all
 commanded_adds config s (Reach prefix cost) h all = all
 commanded_adds config s (NoReach prefix) h all = all
+commanded_adds config s (Filter prefix asn) h all = all
+commanded_adds config s (NoFilter prefix asn) h all = all
+commanded_adds config s (Assert prefix max_len asn) h all = all
+commanded_adds config s (NoAssert prefix max_len asn) h all = all
 
 called_adds : (config : Config) (s : ℕ) (call : Call) (h : List Event) → AllAdd h → AllAdd (called config s call h)
 called_adds config s (Up_call slot) h all = add_if (s == slot) (Signalled Up ∷ h) h all all

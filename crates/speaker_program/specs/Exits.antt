@@ -1,7 +1,7 @@
 -- What refusals of the speaker and faults of its commands are to the program.
 use Rattle.bgp_conf.specs.RefusalNumbers.{number_of}
 use Rattle.bgp_conf.specs.declared.refusal.Refusal.{Refusal}
-use Rattle.bgp_conf.specs.declared.refusal.Refusal.TheVariants.{UnknownName, TooMany, InUse, Range as OutOfRange, BadSlot, ClockBack as MomentBack, NotExpected, SlotTaken, NoMemory as NoMemoryOfSpeaker, AddressTaken}
+use Rattle.bgp_conf.specs.declared.refusal.Refusal.TheVariants.{UnknownName, TooMany, InUse, Range as OutOfRange, UnknownException, BadSlot, ClockBack as MomentBack, NotExpected, SlotTaken, NoMemory as NoMemoryOfSpeaker, AddressTaken}
 use Rattle.scenario.specs.declared.commands.CommandsFault.{CommandsFault}
 use Rattle.scenario.specs.declared.commands.CommandsFault.TheVariants.{BadLine as BadCommand, Refused as RefusedCommand, Device as DeviceOfCommands, NoMemory as NoMemoryOfCommands}
 use Rattle.settings_keys.specs.SettingsExits.{exit_of_settings}
@@ -16,6 +16,7 @@ exit_of_speaker UnknownName = Settings
 exit_of_speaker TooMany = Settings
 exit_of_speaker InUse = Settings
 exit_of_speaker OutOfRange = Settings
+exit_of_speaker UnknownException = Settings
 exit_of_speaker BadSlot = Settings
 exit_of_speaker MomentBack = Settings
 exit_of_speaker NotExpected = Settings

@@ -310,12 +310,14 @@ const BAD_LINES: [(&str, &str); 22] = [
 
 // Commands that are refused, with the number and its words.
 #[rattlefmt::skip]
-const REFUSED_LINES: [(&str, &str, &str); 9] = [
+const REFUSED_LINES: [(&str, &str, &str); 11] = [
     ("noreach 192.0.2.0/24", "settings: line 3: refused 30", "the policy, network or reach entry is unknown"),
     ("use in 0 v", "settings: line 3: refused 30", "the policy, network or reach entry is unknown"),
     ("nopolicy all", "settings: line 3: refused 32", "the policy is built in, or in use"),
     ("peer 1 0 192.0.2.12 192.0.2.1 passive 180 all all", "settings: line 3: refused 33", "a value is out of its range"),
     ("peer 1 65002 192.0.2.12 127.0.0.1 passive 180 all all", "settings: line 3: refused 33", "a value is out of its range"),
+    ("assert 10.0.0.0/16 15 65002", "settings: line 3: refused 33", "a value is out of its range"),
+    ("nofilter as 65009", "settings: line 3: refused 34", "there is no such exception"),
     ("peer 64 65002 192.0.2.12 192.0.2.1 passive 180 all all", "settings: line 3: refused 40", "there is no such slot"),
     ("enable 1", "settings: line 3: refused 40", "there is no such slot"),
     ("peer 0 65002 192.0.2.12 192.0.2.1 passive 180 all all", "settings: line 3: refused 43", "the slot is taken"),

@@ -1,5 +1,6 @@
 //! Tables of a speaker, piece by piece.
 
+use crate::exceptions::write_exceptions;
 use crate::order::write_prefix;
 use crate::peers::write_peer;
 use crate::policies::write_policy;
@@ -10,6 +11,7 @@ use arrayvec::ArrayVec;
 use bgp_attr::write_attrs;
 use bgp_conf::PEER_SLOTS;
 use decision::Book;
+use local_exceptions::Filter;
 use net_prefix::{Prefix, Vrp};
 use scenario::{Answer, Table};
 use speaker::Speaker;
@@ -36,6 +38,14 @@ network PREFIX
 nonetwork PREFIX
 reach PREFIX COST
 noreach PREFIX
+filter prefix PREFIX
+filter as AS
+filter both PREFIX AS
+nofilter prefix PREFIX
+nofilter as AS
+nofilter both PREFIX AS
+assert PREFIX MAX AS
+noassert PREFIX MAX AS
 show sessions
 show peers
 show cache
@@ -47,6 +57,7 @@ show octets SLOT
 show held SLOT
 show waiting SLOT
 show policies
+show exceptions
 clear SLOT
 stop
 help
@@ -60,6 +71,7 @@ pub(crate) enum Place {
     Policy(usize),
     Prefix(Prefix),
     Payload(Vrp),
+    Filter(Filter),
 }
 
 /// What is left of a table.
@@ -122,6 +134,7 @@ fn write_rows<B: Book<Global>>(
         }
         Shown::Peers => write_peer(speaker, scene.times, scene.now, rest.behind, page),
         Shown::Policies => write_policy(speaker.conf(), rest.behind, page),
+        Shown::Exceptions => write_exceptions(speaker.conf(), rest.behind, page),
         Shown::Cache => write_cache(speaker, page),
         Shown::Lines => {
             page.write_all(LINES)?;
@@ -168,7 +181,7 @@ fn payload_count<B: Book<Global>>(speaker: &Speaker<Global, B>) -> u64 {
     count
 }
 
-fn is_full(page: &[u8]) -> bool {
+pub(crate) fn is_full(page: &[u8]) -> bool {
     page.len() >= PIECE_OCTETS
 }
 
@@ -176,14 +189,16 @@ fn is_full(page: &[u8]) -> bool {
 fn prefix_of(behind: Place) -> Option<Prefix> {
     match behind {
         Place::Prefix(last) => Some(last),
-        Place::Start | Place::Slot(_) | Place::Policy(_) | Place::Payload(_) => None,
+        Place::Start | Place::Slot(_) | Place::Policy(_) => None,
+        Place::Payload(_) | Place::Filter(_) => None,
     }
 }
 
 fn payload_of(behind: Place) -> Option<Vrp> {
     match behind {
         Place::Payload(last) => Some(last),
-        Place::Start | Place::Slot(_) | Place::Policy(_) | Place::Prefix(_) => None,
+        Place::Start | Place::Slot(_) | Place::Policy(_) => None,
+        Place::Prefix(_) | Place::Filter(_) => None,
     }
 }
 

@@ -17,6 +17,8 @@ pub enum Shown {
     Peers,
     /// The policies that were set.
     Policies,
+    /// The local exceptions.
+    Exceptions,
     /// The cache session.
     Cache,
     /// The lines that are known.
@@ -31,7 +33,7 @@ impl Shown {
             Shown::Table(Table::In(slot) | Table::Held(slot) | Table::Waiting(slot)) => Some(slot),
             Shown::Table(Table::Sessions | Table::Rib | Table::Payloads) => None,
             Shown::Prefix(_) | Shown::Peers | Shown::Policies => None,
-            Shown::Cache | Shown::Lines => None,
+            Shown::Exceptions | Shown::Cache | Shown::Lines => None,
         }
     }
 }
@@ -42,6 +44,7 @@ pub fn shown_by(text: &str) -> Option<Shown> {
         "help" => Some(Shown::Lines),
         "show peers" => Some(Shown::Peers),
         "show policies" => Some(Shown::Policies),
+        "show exceptions" => Some(Shown::Exceptions),
         "show cache" => Some(Shown::Cache),
         _ => named_by(text),
     }

@@ -65,7 +65,11 @@ fn slot_of(event: Event<'_>) -> Option<u8> {
             | Command::Network(_)
             | Command::NoNetwork(_)
             | Command::Reach(_, _)
-            | Command::NoReach(_),
+            | Command::NoReach(_)
+            | Command::Filter(_, _)
+            | Command::NoFilter(_, _)
+            | Command::Assert(_, _, _)
+            | Command::NoAssert(_, _, _),
         ) => None,
     }
 }

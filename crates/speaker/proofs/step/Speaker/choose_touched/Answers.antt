@@ -1,5 +1,6 @@
 use Rattle.std.proofs.Common.{◌≡◌, ◌∙◌, List, refl, sym, ap, subst, true}
 use Rattle.decision.specs.BookContents.{offer_at}
+use Rattle.local_exceptions.specs.ExceptionSets.{behind}
 use Rattle.net_prefix.specs.declared.payload.Vrp.{Vrp}
 use Rattle.origin_valid.specs.Stretches.{changed_prefixes, stretches}
 use Rattle.rib_in.specs.LatestRoutes.{HasRoute}
@@ -27,7 +28,7 @@ returns-in-Some-clause-touched g c before told =
       conf = ap (λ (r : RoutesState). r.conf) rest;
       links = ap (λ (r : RoutesState). r.links) rest;
       adj_in = ap (λ (r : RoutesState). r.adj_in) rest;
-      made = subst (λ (d : Change). AreMadeWhere (tables_in c.payloads_changed.new.self) (is_within (stretches (changed_prefixes d))) (offer_at c.self.inside.routes.book) (offer_at c.payloads_changed.new.self.book)) change c.payloads_changed.ensures.made;
-      chosen = subst (λ (d : Change). OncePerPrefix (λ p. (is_within (stretches (changed_prefixes d)) p ≡ true) × HasRoute c.self.inside.routes.adj_in p) c.self.inside.routes.chosen c.payloads_changed.new.self.chosen) change c.payloads_changed.ensures.chosen;
+      made = subst (λ (d : Change). AreMadeWhere (tables_in c.payloads_changed.new.self) (is_within (stretches (changed_prefixes (behind c.self.inside.routes.conf.exceptions d)))) (offer_at c.self.inside.routes.book) (offer_at c.payloads_changed.new.self.book)) change c.payloads_changed.ensures.made;
+      chosen = subst (λ (d : Change). OncePerPrefix (λ p. (is_within (stretches (changed_prefixes (behind c.self.inside.routes.conf.exceptions d))) p ≡ true) × HasRoute c.self.inside.routes.adj_in p) c.self.inside.routes.chosen c.payloads_changed.new.self.chosen) change c.payloads_changed.ensures.chosen;
       chosen_before = refl;
     })
