@@ -1,9 +1,9 @@
 #!/usr/bin/env python3
 """exceptions.py OVBGPD OVCACHE OVCTL [PAYLOADS]: local exceptions (RFC 8416) in a speaker. With the RFC's own example file (section 3.5,
-its entries of IPv4 beside those of IPv6 and BGPsec), and with a thousand filters and assertions, the same SLURM file goes to a cache
-that a plain speaker follows, to a speaker that follows a plain cache, and, where Debian's `fort` is there, to it over the same payloads:
-all three must come to the same ones, which are worked out here too. Then 4,096 filters and 4,096 assertions with so many payloads
-(400,000): seconds of a load and of a command, and megabytes. It ends with 1 where one isn't as it should be."""
+its entries of IPv4 beside those of IPv6 and BGPsec), and with a thousand filters and assertions, the same exceptions go to a cache that
+a plain speaker follows, as a SLURM file, and to a speaker that follows a plain cache, as commands: both must come to the same payloads,
+which are worked out here too. Then 4,096 filters and 4,096 assertions with so many payloads (400,000): seconds of a load and of a
+command, and megabytes. It ends with 1 where one isn't as it should be."""
 import ipaddress
 import json
 import os
@@ -100,12 +100,11 @@ def cache(port, slurm=None):
     return subprocess.Popen([OVCACHE, "cache.toml"], stdout=subprocess.DEVNULL, stderr=subprocess.DEVNULL)
 
 
-def speaker(name, port, slurm=None, commands=""):
+def speaker(name, port, commands=""):
     with open(f"{name}.commands", "w") as file:
         file.write("reach 192.0.2.0/24 10\n" + commands)
     with open(f"{name}.toml", "w") as file:
         file.write(f'as = 65000\nidentifier = "192.0.2.1"\nlisten = "127.0.0.1:0"\ncommands = "{name}.commands"\ncontrol = "{name}.socket"\ncache = "127.0.0.1:{port}"\ncache_retry = 1\n')
-        file.write(f'slurm = "{slurm}"\n' if slurm else "")
     return subprocess.Popen([OVBGPD, f"{name}.toml"], stdout=open(f"{name}.log", "w"), stderr=subprocess.STDOUT)
 
 
@@ -126,7 +125,7 @@ def compare(what, slurm, payloads, port):
         json.dump(slurm, file)
     write_list(payloads)
     wanted = [text(payload) for payload in sorted(under(slurm, payloads))]
-    for name, of_cache, of_speaker in (("behind", "slurm.json", None), ("own", None, "slurm.json")):
+    for name, of_cache, of_speaker in (("behind", "slurm.json", ""), ("own", None, "".join(line + "\n" for line in lines_of(slurm)))):
         running = [cache(port, of_cache), speaker(name, port, of_speaker)]
         found = settled(name)
         look(f"{what}: the speaker has the {len(wanted)} payloads, exceptions of {'its cache' if of_cache else 'its own'}", found == wanted)
@@ -167,6 +166,8 @@ def drawn(count, of_filters, of_assertions):
 def lines_of(slurm):
     """The exceptions as commands."""
     for entry in slurm["validationOutputFilters"]["prefixFilters"]:
+        if ":" in entry.get("prefix", ""):
+            continue
         if "asn" in entry and "prefix" in entry:
             yield f"filter both {entry['prefix']} {entry['asn']}"
         elif "asn" in entry:
@@ -174,6 +175,8 @@ def lines_of(slurm):
         else:
             yield f"filter prefix {entry['prefix']}"
     for entry in slurm["locallyAddedAssertions"]["prefixAssertions"]:
+        if ":" in entry["prefix"]:
+            continue
         yield f"assert {entry['prefix']} {entry['prefix'].split('/')[1]} {entry['asn']}"
 
 
@@ -186,7 +189,7 @@ def figures(port):
         serving = cache(port)
         time.sleep(2)
         begins = time.time()
-        asked = speaker(name, port, None, given)
+        asked = speaker(name, port, given)
         found = settled(name)
         seconds = time.time() - begins
         spent, peak = usage(asked)
