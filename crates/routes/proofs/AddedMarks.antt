@@ -26,12 +26,12 @@ use Rattle.net_prefix.specs.declared.prefix.Prefix.{Prefix}
 use Rattle.rib_in.specs.LatestRoutes.{RouteTable, route_at}
 use Rattle.rib_out.specs.Held.{asked_at, held_at}
 use Rattle.routes.specs.Commands.{resolves}
-use Rattle.routes.specs.Export.{export_in, export_peer_of, selected_of}
-use Rattle.routes.specs.Linked.{Linked}
-use Rattle.routes.specs.Marks.{AreMarked, AreMarkedFor, mark_at, mark_for, mark_of, no_mark}
-use Rattle.routes.specs.RoutingState.{RoutingState}
-use Rattle.routes.specs.Tables.{best_at, link_at}
-use Rattle.routes.proofs.Marking.{export_none, is_other, marked_as, none_unlinked, other_is}
+use Rattle.routing.specs.Export.{export_in, export_peer_of, selected_of}
+use Rattle.routing.specs.Linked.{Linked}
+use Rattle.routing.specs.Marks.{AreMarked, AreMarkedFor, mark_at, mark_for, mark_of, no_mark}
+use Rattle.routing.specs.RoutingState.{RoutingState}
+use Rattle.routing.specs.Tables.{best_at, link_at}
+use Rattle.routing.proofs.Marking.{export_none, is_other, marked_as, none_unlinked, other_is}
 use Rattle.routes.proofs.SlotMarks.{IsNow, now_off}
 
 -- What waits, where a peer is added.

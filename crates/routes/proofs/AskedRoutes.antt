@@ -5,10 +5,10 @@ use Rattle.bgp_fsm.specs.declared.session.Session.{Session}
 use Rattle.decision.specs.declared.book.Change.{Change}
 use Rattle.decision.specs.declared.candidate.Candidate.{Candidate}
 use Rattle.net_prefix.specs.declared.prefix.Prefix.{Prefix}
-use Rattle.routes.specs.Candidates.{HasNoneAt, IsCandidate}
-use Rattle.routes.specs.Offers.{IsOffer, IsRemade, LacksRoute}
-use Rattle.routes.specs.Tables.{Tables}
-use Rattle.routes.proofs.CandidateLists.{none_routed, of_peer}
+use Rattle.routing.specs.Candidates.{HasNoneAt, IsCandidate}
+use Rattle.routing.specs.Offers.{IsOffer, IsRemade, LacksRoute}
+use Rattle.routing.specs.Tables.{Tables}
+use Rattle.routing.proofs.CandidateLists.{none_routed, of_peer}
 
 -- a slot that isn't there makes no candidate
 pub none_beyond : (t : Tables) (prefix : Prefix) (slot : ℕ) → 64 < slot → HasNoneAt t prefix slot

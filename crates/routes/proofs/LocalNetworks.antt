@@ -14,8 +14,8 @@ use Rattle.net_prefix.specs.PrefixOrder.{prefix_cmp}
 use Rattle.net_prefix.specs.declared.prefix.Prefix.{Prefix}
 use Rattle.rib_in.specs.LatestRoutes.{route_at}
 use Rattle.rib_out.proofs.Prefixes.{is_prefix-refl}
-use Rattle.routes.specs.RoutesState.{RoutesState, StaysAsIs}
-use Rattle.routes.specs.Tables.{link_at}
+use Rattle.routing.specs.RoutesState.{RoutesState, StaysAsIs}
+use Rattle.routing.specs.Tables.{link_at}
 
 -- Local networks that come, and that memory is refused to.
 

@@ -11,10 +11,10 @@ use Rattle.net_prefix.specs.PrefixSpelling.{spelling_of}
 use Rattle.net_prefix.specs.declared.prefix.Prefix.{Prefix}
 use Rattle.rib_out.specs.Held.{is_among, is_prefix}
 use Rattle.rib_out.proofs.Prefixes.{is_prefix-refl}
-use Rattle.routes.specs.Packing.{IsBehind, IsPack}
-use Rattle.routes.specs.Places.{rank_of}
-use Rattle.routes.proofs.Places.{less_from_rank, same_from_is_prefix, same_from_rank}
-use Rattle.routes.proofs.RouteChanges.{among_push}
+use Rattle.routing.specs.Packing.{IsBehind, IsPack}
+use Rattle.routing.specs.Places.{rank_of}
+use Rattle.routing.proofs.Places.{less_from_rank, same_from_is_prefix, same_from_rank}
+use Rattle.routing.proofs.RouteChanges.{among_push}
 
 -- The prefixes that one UPDATE names, found one after another.
 

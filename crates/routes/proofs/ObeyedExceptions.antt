@@ -21,18 +21,18 @@ use Rattle.origin_valid.proofs.FilterChanges.{has_filter-out_same, has_filter-pu
 use Rattle.origin_valid.proofs.Touches.{touched_by_absent_filter, touched_by_assertion, touched_by_filter, touched_by_known_filter, touched_by_no_assertion, touched_by_no_filter}
 use Rattle.prefix_trie.specs.CoverWalks.{covers}
 use Rattle.rib_in.specs.LatestRoutes.{HasRoute, RouteTable}
-use Rattle.routes.specs.Chosen.{OncePerPrefix}
+use Rattle.routing.specs.Chosen.{OncePerPrefix}
 use Rattle.routes.specs.Commands.{TurnsAssertion, TurnsFilter}
-use Rattle.routes.specs.Linked.{Linked}
-use Rattle.routes.specs.Marks.{AreMarked}
-use Rattle.routes.specs.Offers.{AreMadeWhere, IsSound, Offers, is_within}
-use Rattle.routes.specs.RoutesState.{ObeysExceptions, RoutesState}
-use Rattle.routes.specs.RoutingState.{RoutingState}
-use Rattle.routes.specs.Tables.{Tables, payloads_under, tables}
+use Rattle.routing.specs.Linked.{Linked}
+use Rattle.routing.specs.Marks.{AreMarked}
+use Rattle.routing.specs.Offers.{AreMadeWhere, IsSound, Offers, is_within}
+use Rattle.routing.specs.RoutesState.{ObeysExceptions, RoutesState}
+use Rattle.routing.specs.RoutingState.{RoutingState}
+use Rattle.routing.specs.Tables.{Tables, payloads_under, tables}
 use Rattle.routes.proofs.AddedMarks.{marked_reached}
-use Rattle.routes.proofs.Counting.{different_as}
-use Rattle.routes.proofs.RemadeOffers.{made_none}
-use Rattle.routes.proofs.SoundOffers.{sound_conf}
+use Rattle.routing.proofs.Counting.{different_as}
+use Rattle.routing.proofs.RemadeOffers.{made_none}
+use Rattle.routing.proofs.SoundOffers.{sound_conf}
 
 -- What commands of local exceptions leave of the routes, and what they make again.
 

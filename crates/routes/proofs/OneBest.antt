@@ -5,10 +5,10 @@ use Rattle.decision.proofs.Laws.{selected_member}
 use Rattle.decision.proofs.SameMembers.{same_selected}
 use Rattle.export_rules.specs.declared.export.ExportPeer.{ExportPeer}
 use Rattle.net_prefix.specs.declared.prefix.Prefix.{Prefix}
-use Rattle.routes.specs.Candidates.{AreCandidates, IsCandidate}
-use Rattle.routes.specs.Export.{IsExport, exported_at}
-use Rattle.routes.specs.LocRib.{AreBest, IsBest, HasNoCandidate}
-use Rattle.routes.specs.Tables.{Tables}
+use Rattle.routing.specs.Candidates.{AreCandidates, IsCandidate}
+use Rattle.routing.specs.Export.{IsExport, exported_at}
+use Rattle.routing.specs.LocRib.{AreBest, IsBest, HasNoCandidate}
+use Rattle.routing.specs.Tables.{Tables}
 
 -- A prefix has at most one best route, and one export to a peer.
 

@@ -13,9 +13,9 @@ use Rattle.bgp_conf.specs.declared.command.Command.TheVariants.{AddPeer, UseIn}
 use Rattle.bgp_conf.specs.declared.command.PeerConf.{PeerConf}
 use Rattle.bgp_conf.specs.declared.conf.ConfiguredPeer.{ConfiguredPeer}
 use Rattle.bgp_conf.specs.declared.refusal.Refusal.{Refusal}
-use Rattle.routes.specs.Linked.{Linked}
-use Rattle.routes.specs.Offers.{IsSound, Offers}
-use Rattle.routes.proofs.SoundOffers.{sound_conf}
+use Rattle.routing.specs.Linked.{Linked}
+use Rattle.routing.specs.Offers.{IsSound, Offers}
+use Rattle.routing.proofs.SoundOffers.{sound_conf}
 
 -- A peer that comes to a slot.
 

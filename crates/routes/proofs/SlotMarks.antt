@@ -20,13 +20,13 @@ use Rattle.rib_out.specs.Held.{HeldRoute, all_asked, asked_at, held_at, is_among
 use Rattle.rib_out.specs.Waiting.{is_known, owed_at}
 use Rattle.rib_out.specs.declared.marks.Owed.TheVariants.{Announcement}
 use Rattle.rib_out.proofs.HeldTables.{held_at-all_asked}
-use Rattle.routes.specs.Export.{export_in, export_peer_of}
-use Rattle.routes.specs.Linked.{Linked, moved}
-use Rattle.routes.specs.Marks.{AreMarked, AreMarkedFor, IsFollowed, IsMarked, IsReleased, mark_at, mark_for, mark_of, no_mark}
-use Rattle.routes.specs.Told.{IsTold}
-use Rattle.routes.specs.RoutingState.{RoutingState}
-use Rattle.routes.specs.Tables.{best_at, link_at}
-use Rattle.routes.proofs.Marking.{KeepsTables, is_other, marked_as, marked_none, marked_still, no_none, none_unlinked, other_is}
+use Rattle.routing.specs.Export.{export_in, export_peer_of}
+use Rattle.routing.specs.Linked.{Linked, moved}
+use Rattle.routing.specs.Marks.{AreMarked, AreMarkedFor, IsFollowed, IsMarked, IsReleased, mark_at, mark_for, mark_of, no_mark}
+use Rattle.routing.specs.Told.{IsTold}
+use Rattle.routing.specs.RoutingState.{RoutingState}
+use Rattle.routing.specs.Tables.{best_at, link_at}
+use Rattle.routing.proofs.Marking.{KeepsTables, is_other, marked_as, marked_none, marked_still, no_none, none_unlinked, other_is}
 
 -- What waits for a slot's peer, while its session and what it holds change.
 

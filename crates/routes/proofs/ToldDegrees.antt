@@ -12,9 +12,9 @@ use Rattle.export_rules.specs.Export.{local_pref_of}
 use Rattle.net_prefix.specs.declared.prefix.Prefix.{Prefix}
 use Rattle.policy.specs.declared.rule.Action.{Action}
 use Rattle.policy.specs.declared.rule.Action.TheVariants.{Reject, Accept}
-use Rattle.routes.specs.Candidates.{IsPeerCandidate, degree_by, degree_of, seen_of, taken}
-use Rattle.routes.specs.Export.{SetsDegree}
-use Rattle.routes.specs.Tables.{Tables}
+use Rattle.routing.specs.Candidates.{IsPeerCandidate, degree_by, degree_of, seen_of, taken}
+use Rattle.routing.specs.Export.{SetsDegree}
+use Rattle.routing.specs.Tables.{Tables}
 
 made_small : (kind : PeerKind) (attrs : PathAttributes) (d : ℕ) → degree_of kind attrs ≡ Some d → MatchOption attrs.local_pref ⊤ (λ n. n < 2 ^ 32) → d < 2 ^ 32
 made_small (External peer) attrs d is small = let same : 100 ≡ d = cc in omega (arith, sym same)

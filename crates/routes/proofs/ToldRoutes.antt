@@ -11,12 +11,12 @@ use Rattle.rib_in.specs.LatestRoutes.{RouteTable, route_at}
 use Rattle.rib_out.specs.Held.{is_among}
 use Rattle.rib_out.specs.Waiting.{is_known, owed_at}
 use Rattle.rib_out.specs.declared.marks.Owed.{Owed}
-use Rattle.routes.specs.Export.{export_in, export_peer_of, exported_at}
-use Rattle.routes.specs.Marks.{IsReleased}
-use Rattle.routes.specs.RoutesState.{RoutesState, export_of}
-use Rattle.routes.specs.RoutingState.{RoutingState}
-use Rattle.routes.specs.Tables.{best_at}
-use Rattle.routes.proofs.Marking.{no_none, released_alike}
+use Rattle.routing.specs.Export.{export_in, export_peer_of, exported_at}
+use Rattle.routing.specs.Marks.{IsReleased}
+use Rattle.routing.specs.RoutesState.{RoutesState, export_of}
+use Rattle.routing.specs.RoutingState.{RoutingState}
+use Rattle.routing.specs.Tables.{best_at}
+use Rattle.routing.proofs.Marking.{no_none, released_alike}
 
 -- What a peer is told is a route, whose prefix stays known.
 

@@ -17,15 +17,15 @@ use Rattle.rib_out.specs.Waiting.{owed_at}
 use Rattle.rib_out.specs.declared.marks.Owed.TheVariants.{Announcement}
 use Rattle.rib_out.specs.declared.waits.Waits.{Waits}
 use Rattle.rib_out.proofs.HeldTables.{held_if_asked}
-use Rattle.routes.specs.Export.{export_in, export_peer_of}
-use Rattle.routes.specs.Linked.{Linked}
-use Rattle.routes.specs.Marks.{AreMarked, mark_for, mark_of, no_mark, owed_for}
-use Rattle.routes.specs.RoutesState.{RoutesState}
-use Rattle.routes.specs.Tables.{best_at, link_at}
-use Rattle.routes.specs.Waiting.{differing, is_same, known_prefixes, waiting_at}
+use Rattle.routing.specs.Export.{export_in, export_peer_of}
+use Rattle.routing.specs.Linked.{Linked}
+use Rattle.routing.specs.Marks.{AreMarked, mark_for, mark_of, no_mark, owed_for}
+use Rattle.routing.specs.RoutesState.{RoutesState}
+use Rattle.routing.specs.Tables.{best_at, link_at}
+use Rattle.routing.specs.Waiting.{differing, is_same, known_prefixes, waiting_at}
 use Rattle.routes.specs.WaitingRows.{is_waiting}
-use Rattle.routes.proofs.Owing.{routing_of}
-use Rattle.routes.proofs.WaitingLists.{any_differing}
+use Rattle.routing.proofs.Owing.{routing_of}
+use Rattle.routing.proofs.WaitingLists.{any_differing}
 
 abbrev is_member : Prefix → List Prefix → Bool
 is_member q prefixes = list_any (is_prefix q) prefixes

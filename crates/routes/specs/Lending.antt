@@ -6,7 +6,7 @@ use Rattle.std.specs.declared.clone.Clone as cloned
 use Rattle.decision.specs.declared.book.Book as books
 use Rattle.net_prefix.specs.declared.payload.Vrp.{Vrp}
 use Rattle.origin_valid.specs.contracts.payload_trie.PayloadTrie as trie
-use Rattle.routes.specs.RoutesState.{RoutesState, with_payloads}
+use Rattle.routing.specs.RoutesState.{RoutesState, with_payloads}
 use Rattle.routes.specs.contracts.routes.Routes.{the_row}
 
 -- once the borrow ends, the routes have the payloads that were left behind it, and all else stays

@@ -6,10 +6,10 @@ use Rattle.bgp_conf.specs.Configuration.{peer_at}
 use Rattle.decision.specs.BookContents.{rows_of}
 use Rattle.net_prefix.specs.declared.prefix.Prefix.{Prefix}
 use Rattle.rib_out.specs.Held.{is_prefix}
-use Rattle.routes.specs.Export.{export_peer_of}
-use Rattle.routes.specs.RoutesState.{RoutesState}
-use Rattle.routes.specs.Tables.{link_at}
-use Rattle.routes.specs.Waiting.{waiting_at}
+use Rattle.routing.specs.Export.{export_peer_of}
+use Rattle.routing.specs.RoutesState.{RoutesState}
+use Rattle.routing.specs.Tables.{link_at}
+use Rattle.routing.specs.Waiting.{waiting_at}
 
 -- the known prefixes that wait of a slot
 abbrev pub waiting_for : RoutesState → ℕ → List Prefix

@@ -3,10 +3,10 @@ ghost use Rattle.std.specs.Prelude.{◌≡◌, ◌≤◌};
 ghost use Rattle.std.specs.Option.{option_copied};
 ghost use Rattle.origin_valid.specs.Validity.{validity};
 ghost use Rattle.rib_in.specs.LatestRoutes.{route_at};
-ghost use Rattle.routes.specs.Offers.{IsOffer};
-ghost use Rattle.routes.specs.RoutesState.{payloads_in_force, tables_in};
+ghost use Rattle.routing.specs.Offers.{IsOffer};
+ghost use Rattle.routing.specs.RoutesState.{payloads_in_force, tables_in};
 
-use crate::candidates::remade_at;
+use routing::remade_at;
 use crate::routes::Routes;
 use bgp_attr::Attrs;
 use decision::{Book, Candidate, LOCAL_SLOT};

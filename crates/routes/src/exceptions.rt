@@ -4,10 +4,10 @@ ghost use Rattle.bgp_conf.specs.ConfAfter.{TakesMemory};
 ghost use Rattle.bgp_conf.specs.FirstRefusal.{IsAccepted};
 ghost use Rattle.net_prefix.specs.PayloadSets.{has};
 ghost use Rattle.routes.specs.Commands.{TurnsAssertion, TurnsFilter};
-ghost use Rattle.routes.specs.RoutesState.{ObeysExceptions};
-ghost use Rattle.routes.specs.Tables.{payloads_under};
+ghost use Rattle.routing.specs.RoutesState.{ObeysExceptions};
+ghost use Rattle.routing.specs.Tables.{payloads_under};
 
-use crate::candidates::{choose_turned, choose_within};
+use routing::{choose_turned, choose_within};
 use crate::routes::Routes;
 use bgp_conf::{Command, Conf};
 use decision::Book;

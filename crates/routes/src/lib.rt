@@ -1,9 +1,7 @@
 //! Routes: what came from the peers, what the selection makes of it, and what each peer is owed of it.
 //!
 //! **Parts.** `Routes` is the one type that others call. It has the configuration, the payloads that are loaded, a `Link` for
-//! each slot (its session beside what its peer was sent), `Routing` (Adj-RIB-In with Loc-RIB, and of each prefix what waits for
-//! each Established peer: a withdrawal, an announcement or nothing; announcements are listed by the octets that are written, so
-//! that those of one UPDATE are found soon) and what was announced lately, for peers to share. Its value (`RoutesState`) has
+//! each slot, the tables (`Routing` of routing) and what was announced lately, for peers to share. Its value (`RoutesState`) has
 //! all of these but what waits: that is where what a peer holds and its export differ, or the peer has asked for what it holds
 //! again (RFC 2918). Routes are judged by the payloads in force: what the configuration's local exceptions make of the loaded
 //! ones (RFC 8416 section 3), which is kept nowhere.
@@ -13,43 +11,27 @@
 //! and an UPDATE among them brings and withdraws routes (`judge_front`). A command changes the configuration and what
 //! depends on it (`originate`, `set_policy` and the like); payloads that came or went judge again the routes that they
 //! concern (`payloads_changed`), and so do local exceptions with those that come into force or go (`filter`, `assert`).
-//! Whatever changes, it goes one way: the candidates of the touched prefixes are made again, the best route of each is chosen
-//! once at most, and for each Established peer the prefix is marked. What is marked is asked for in order
-//! (`withdrawal_after`, `announcement_after`) and told (`tell_withdrawals`, `tell_announcements`).
+//! What then waits is asked for in order (`withdrawal_after`, `announcement_after`) and told (`tell_withdrawals`,
+//! `tell_announcements`).
 //!
 //! **What holds when.** Between calls: no two peers have one address, each candidate has its own peer's, and of each prefix
 //! there waits for each slot just what its peer is owed, and an announcement is listed by its octets (the invariant of
 //! `Routes`). No clause outside speaks of marks or lists.
-//! Within a call the functions of `Routing`, `candidates` and `updates` are given this (`AreMarked`, `IsSound`) and give it
-//! back.
 //!
-//! Nothing here speaks of a run or of a session's history: the speaker above does. To read first: the definitions
-//! `RoutesState` and `Marks`, then `routes`, `sessions`, `commands`, `exceptions`, `queue` (the calls), `routing` (the tables
-//! and their marks), `candidates` (what makes a route a candidate), `message`, `updates`, `exports`, `packing` (which prefixes
-//! one UPDATE names), `told`, `waiting`, `waiting_after`.
+//! Nothing here speaks of a run or of a session's history: the speaker above does. To read first: the definition
+//! `RoutesState` of routing, then `routes`, `sessions`, `commands`, `exceptions`, `queue` (the calls), `packing` (which
+//! prefixes one UPDATE names), `waiting_after`.
 #![tactic(auto)]
 
 mod asked;
-mod candidates;
 mod commands;
 mod exceptions;
-mod exports;
-mod link;
-mod message;
 mod packing;
 mod queue;
 mod routes;
-mod routing;
 mod sessions;
-mod told;
-mod updates;
-mod waiting;
 mod waiting_after;
 
-pub use exports::{Octets, place};
-pub use link::Link;
-pub use message::Standard;
 pub use packing::Draft;
 pub use routes::Routes;
-pub use waiting::WaitingPrefixes;
 pub use waiting_after::WaitingAfter;

@@ -15,19 +15,19 @@ ghost use Rattle.rib_in.specs.LatestRoutes.{HasRoute, route_at, routes_of};
 ghost use Rattle.rib_out.specs.Held.{is_prefix};
 ghost use Rattle.local_exceptions.specs.ExceptionSets.{behind};
 ghost use Rattle.origin_valid.specs.Stretches.{changed_prefixes, stretches};
-ghost use Rattle.routes.specs.Chosen.{OncePerPrefix};
-ghost use Rattle.routes.specs.Export.{IsAccepted, export_in, export_peer_of};
+ghost use Rattle.routing.specs.Chosen.{OncePerPrefix};
+ghost use Rattle.routing.specs.Export.{IsAccepted, export_in, export_peer_of};
 ghost use Rattle.routes.specs.Lending.{lends_payloads};
-ghost use Rattle.routes.specs.Offers.{AreMadeWhere, is_within};
-ghost use Rattle.routes.specs.RoutesState.{begun, tables_in};
-ghost use Rattle.routes.specs.Tables.{best_at, link_at};
-ghost use Rattle.routes.specs.Waiting.{waiting_at};
+ghost use Rattle.routing.specs.Offers.{AreMadeWhere, is_within};
+ghost use Rattle.routing.specs.RoutesState.{begun, tables_in};
+ghost use Rattle.routing.specs.Tables.{best_at, link_at};
+ghost use Rattle.routing.specs.Waiting.{waiting_at};
 
-use crate::candidates::choose_touched;
-use crate::exports::{Octets, export, export_peer};
-use crate::link::Link;
-use crate::routing::{Links, Routing, slots_end};
-use crate::waiting::WaitingPrefixes;
+use routing::choose_touched;
+use routing::{Octets, export, export_peer};
+use routing::Link;
+use routing::{Links, Routing, slots_end};
+use routing::WaitingPrefixes;
 use bgp_conf::Conf;
 use decision::Book;
 use export_rules::ExportPeer;
@@ -57,9 +57,9 @@ pub struct Routes<A: Allocator + Clone, B: Book<A>> {
 
 impl<A: Allocator + Clone, B: Book<A>> Model for Routes<A, B> {
     ghost use Rattle.decision.specs.BookContents.{offer_at};
-    ghost use Rattle.routes.specs.Marks.{AreMarked};
-    ghost use Rattle.routes.specs.Offers.{IsSound};
-    ghost use Rattle.routes.specs.RoutesState.{RoutesState};
+    ghost use Rattle.routing.specs.Marks.{AreMarked};
+    ghost use Rattle.routing.specs.Offers.{IsSound};
+    ghost use Rattle.routing.specs.RoutesState.{RoutesState};
 
     ghost Value = { RoutesState };
 

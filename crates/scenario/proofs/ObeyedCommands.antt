@@ -9,18 +9,18 @@ use Rattle.bgp_conf.specs.declared.command.Command.{Command}
 use Rattle.bgp_conf.specs.declared.refusal.Refusal.{Refusal}
 use Rattle.bgp_conf.specs.declared.refusal.Refusal.TheVariants.{NoMemory as Memory}
 use Rattle.net_prefix.specs.declared.prefix.Prefix.{Prefix}
-use Rattle.routes.proofs.KeptOffers.{kept_same}
-use Rattle.speaker.proofs.PeerRoutes.{peers_same}
-use Rattle.speaker.specs.Agreement.{Agrees, CacheAgrees, SlotAgrees}
-use Rattle.speaker.specs.FirstRefusal.{LacksMemory, refusal_of}
-use Rattle.routes.specs.Linked.{Linked}
-use Rattle.speaker.specs.Runs.{Run, Turn, cache_history, history}
-use Rattle.speaker.specs.SpeakerState.{IsAsBefore, SpeakerState, tables_of}
-use Rattle.routes.specs.Tables.{link_at, network_route, payloads_under}
-use Rattle.speaker.specs.declared.config.Config.{Config}
-use Rattle.speaker.specs.declared.event.Event.{Event}
-use Rattle.speaker.specs.declared.event.Event.TheVariants.{Command as Commanded}
-use Rattle.speaker.specs.declared.event.Report.{Report}
+use Rattle.routing.proofs.KeptOffers.{kept_same}
+use Rattle.runs.proofs.PeerRoutes.{peers_same}
+use Rattle.runs.specs.Agreement.{Agrees, CacheAgrees, SlotAgrees}
+use Rattle.runs.specs.FirstRefusal.{LacksMemory, refusal_of}
+use Rattle.routing.specs.Linked.{Linked}
+use Rattle.runs.specs.Runs.{Run, Turn, cache_history, history}
+use Rattle.runs.specs.SpeakerState.{IsAsBefore, SpeakerState, tables_of}
+use Rattle.routing.specs.Tables.{link_at, network_route, payloads_under}
+use Rattle.runs.specs.declared.config.Config.{Config}
+use Rattle.runs.specs.declared.event.Event.{Event}
+use Rattle.runs.specs.declared.event.Event.TheVariants.{Command as Commanded}
+use Rattle.runs.specs.declared.event.Report.{Report}
 use Rattle.scenario.specs.CommandFaults.{NamesLine, TellsRefusal, unread_at}
 use Rattle.command_lines.specs.CommandWords.{SayNone, Says, SaysLine}
 use Rattle.command_lines.specs.Words.{Reads, words_in}

@@ -5,12 +5,12 @@ use Rattle.bgp_conf.specs.declared.command.Command.{Command}
 use Rattle.bgp_conf.specs.declared.refusal.Refusal.{Refusal}
 use Rattle.command_lines.specs.CommandWords.{SayNone, Says}
 use Rattle.command_lines.specs.Words.{words_in}
-use Rattle.speaker.specs.Agreement.{Agrees}
-use Rattle.speaker.specs.FirstRefusal.{refusal_of}
-use Rattle.speaker.specs.Runs.{Run, Turn, Command_call, asked}
-use Rattle.speaker.specs.SpeakerState.{SpeakerState}
-use Rattle.speaker.specs.declared.config.Config.{Config}
-use Rattle.speaker.specs.declared.event.Event.TheVariants.{Command as Commanded}
+use Rattle.runs.specs.Agreement.{Agrees}
+use Rattle.runs.specs.FirstRefusal.{refusal_of}
+use Rattle.runs.specs.Runs.{Run, Turn, Command_call, asked}
+use Rattle.runs.specs.SpeakerState.{SpeakerState}
+use Rattle.runs.specs.declared.config.Config.{Config}
+use Rattle.runs.specs.declared.event.Event.TheVariants.{Command as Commanded}
 use Rattle.scenario.specs.FileLines.{says_nothing, without_end}
 use Rattle.scenario.specs.declared.commands.CommandsFault.{CommandsFault}
 use Rattle.scenario.specs.declared.commands.CommandsFault.TheVariants.{BadLine, Refused, Device, NoMemory}

@@ -20,19 +20,19 @@ use Rattle.net_prefix.specs.declared.payload.Vrp.{Vrp}
 use Rattle.net_prefix.specs.declared.prefix.Prefix.{Prefix}
 use Rattle.origin_valid.specs.Touched.{is_touched}
 use Rattle.rib_in.specs.LatestRoutes.{route_at}
-use Rattle.routes.specs.Heard.{update_heard}
-use Rattle.speaker.specs.AdjRibIn.{brought, route}
-use Rattle.routes.specs.Updates.{is_among, sound_update, word_if}
+use Rattle.routing.specs.Heard.{update_heard}
+use Rattle.runs.specs.AdjRibIn.{brought, route}
+use Rattle.routing.specs.Updates.{is_among, sound_update, word_if}
 use Rattle.bgp_conf.specs.Configuration.{is_network}
-use Rattle.speaker.proofs.KnownPrefixes.{IsKnown, network_among}
-use Rattle.speaker.specs.Choices.{is_known, named_to, announced_in, announced_to, choices_by, choices_on, is_routed, routes_held}
-use Rattle.routes.specs.Chosen.{announced_if, how_many, named_if, AreDifferent}
+use Rattle.runs.proofs.KnownPrefixes.{IsKnown, network_among}
+use Rattle.runs.specs.Choices.{is_known, named_to, announced_in, announced_to, choices_by, choices_on, is_routed, routes_held}
+use Rattle.routing.specs.Chosen.{announced_if, how_many, named_if, AreDifferent}
 use Rattle.speaker.specs.Chosen.{Chooses}
-use Rattle.speaker.specs.Runs.{Run, configuration_of, history}
-use Rattle.speaker.specs.SpeakerState.{SpeakerState}
-use Rattle.speaker.specs.declared.config.Config.{Config}
-use Rattle.routes.proofs.Counting.{among_all, different_as}
-use Rattle.routes.proofs.NamedPrefixes.{IsOne, most_of, among_behind}
+use Rattle.runs.specs.Runs.{Run, configuration_of, history}
+use Rattle.runs.specs.SpeakerState.{SpeakerState}
+use Rattle.runs.specs.declared.config.Config.{Config}
+use Rattle.routing.proofs.Counting.{among_all, different_as}
+use Rattle.routing.proofs.NamedPrefixes.{IsOne, most_of, among_behind}
 
 -- ---- a prefix with a route was announced
 word_some : (a w : Bool) (attrs : PathAttributes) (before : Option PathAttributes) → IsSome (cond a (Some attrs) (cond w None before)) → (a ≡ true) ⊎ IsSome before

@@ -2,12 +2,12 @@
 use Rattle.std.proofs.Common.{◌≡◌, ℕ, Option, sym, subst}
 use Rattle.decision.specs.declared.candidate.Candidate.{Candidate}
 use Rattle.net_prefix.specs.declared.prefix.Prefix.{Prefix}
-use Rattle.routes.specs.Offers.{IsOffer}
-use Rattle.routes.specs.Tables.{Tables, link_at, payloads_under}
-use Rattle.speaker.specs.Agreement.{Agrees, tables_after}
-use Rattle.speaker.specs.Runs.{Run, payloads_after}
-use Rattle.speaker.specs.SpeakerState.{SpeakerState, in_force_of, tables_of}
-use Rattle.speaker.specs.declared.config.Config.{Config}
+use Rattle.routing.specs.Offers.{IsOffer}
+use Rattle.routing.specs.Tables.{Tables, link_at, payloads_under}
+use Rattle.runs.specs.Agreement.{Agrees, tables_after}
+use Rattle.runs.specs.Runs.{Run, payloads_after}
+use Rattle.runs.specs.SpeakerState.{SpeakerState, in_force_of, tables_of}
+use Rattle.runs.specs.declared.config.Config.{Config}
 use Rattle.speaker.proofs.Calls.{tables_same}
 
 tables_shown : (config : Config) (r : Run) (s : SpeakerState) → Agrees config r s → tables_after config r ≡ tables_of s

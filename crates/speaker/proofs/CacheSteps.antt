@@ -22,22 +22,22 @@ use Rattle.rtr_session.specs.SessionState.{Session as CacheSession, client_after
 use Rattle.rtr_session.proofs.Agreeing.{stood_after}
 use Rattle.rtr_session.proofs.ClientRows.{starved_closes}
 use Rattle.rtr_session.proofs.SessionLaws.{octets_are_dropped, pieces_join}
-use Rattle.speaker.specs.AdjRibIn.{route}
-use Rattle.speaker.specs.Agreement.{Agrees, CacheAgrees, CacheHears, CacheHearsUntil, CacheMayStarve, Holds, HoldsBy}
+use Rattle.runs.specs.AdjRibIn.{route}
+use Rattle.runs.specs.Agreement.{Agrees, CacheAgrees, CacheHears, CacheHearsUntil, CacheMayStarve, Holds, HoldsBy}
 use Rattle.speaker.specs.CacheMoves.{Revalidates, concerns}
-use Rattle.speaker.specs.Choices.{choices_cached, choices_cached_on, choices_in, in_force_with}
-use Rattle.speaker.specs.Runs.{Call, Run, Up_call, Fail_call, Bytes_call, Starved_call, Tick_call, Command_call, Take_call, Cache_up_call, Cache_fail_call, Cache_bytes_call, Cache_starved_call, Cache_take_call, cache_called, cache_history, configuration_of, history, moment_after, moment_called, turn}
-use Rattle.speaker.specs.SpeakerState.{SpeakerState, in_force_of}
-use Rattle.speaker.specs.declared.config.Config.{Config}
+use Rattle.runs.specs.Choices.{choices_cached, choices_cached_on, choices_in, in_force_with}
+use Rattle.runs.specs.Runs.{Call, Run, Up_call, Fail_call, Bytes_call, Starved_call, Tick_call, Command_call, Take_call, Cache_up_call, Cache_fail_call, Cache_bytes_call, Cache_starved_call, Cache_take_call, cache_called, cache_history, configuration_of, history, moment_after, moment_called, turn}
+use Rattle.runs.specs.SpeakerState.{SpeakerState, in_force_of}
+use Rattle.runs.specs.declared.config.Config.{Config}
 use Rattle.speaker.proofs.AllowedChoices.{most_touched}
-use Rattle.speaker.proofs.Coming.{HasCome, Joins}
-use Rattle.routes.proofs.Counting.{different_as}
+use Rattle.runs.proofs.Coming.{HasCome, Joins}
+use Rattle.routing.proofs.Counting.{different_as}
 use Rattle.speaker.proofs.Events.{IsReady}
 use Rattle.speaker.proofs.KeptOffers.{kept_touched}
-use Rattle.speaker.proofs.KnownPrefixes.{IsKnown, known_of}
-use Rattle.routes.specs.Tables.{network_route, payloads_under}
-use Rattle.speaker.proofs.Histories.{route_stays}
-use Rattle.speaker.proofs.Touches.{choices_from, choices_joined, choices_none, choices_octets, choices_twice, untouched}
+use Rattle.runs.proofs.KnownPrefixes.{IsKnown, known_of}
+use Rattle.routing.specs.Tables.{network_route, payloads_under}
+use Rattle.runs.proofs.Histories.{route_stays}
+use Rattle.runs.proofs.Touches.{choices_from, choices_joined, choices_none, choices_octets, choices_twice, untouched}
 
 -- What the events of the cache session make of the speaker, as the run with them has it.
 

@@ -9,19 +9,19 @@ use Rattle.bgp_peer.specs.SessionInputs.{session}
 use Rattle.net_prefix.specs.declared.payload.Vrp.{Vrp}
 use Rattle.net_prefix.specs.declared.prefix.Prefix.{Prefix}
 use Rattle.rib_in.specs.LatestRoutes.{RouteTable, route_at}
-use Rattle.speaker.specs.AdjRibIn.{route}
-use Rattle.speaker.specs.Agreement.{SlotAgrees, tables_after, route_under}
-use Rattle.routes.specs.Export.{export_in, export_peer_of}
+use Rattle.runs.specs.AdjRibIn.{route}
+use Rattle.runs.specs.Agreement.{SlotAgrees, tables_after, route_under}
+use Rattle.routing.specs.Export.{export_in, export_peer_of}
 use Rattle.speaker.specs.Export.{export_to}
-use Rattle.routes.specs.Linked.{Linked}
-use Rattle.speaker.specs.Queueing.{Queue, Service}
-use Rattle.speaker.specs.Runs.{Call, Run, turn, configuration_of, history, loaded_after, served_by}
-use Rattle.speaker.specs.SpeakerState.{SpeakerState}
-use Rattle.routes.specs.Tables.{Tables, best_at, network_route, payloads_under, peer_route_at}
-use Rattle.speaker.specs.declared.config.Config.{Config}
-use Rattle.speaker.proofs.SlotStates.{slot_session}
-use Rattle.speaker.proofs.PeerRoutes.{peers_same}
-use Rattle.routes.proofs.Exported.{best_short}
+use Rattle.routing.specs.Linked.{Linked}
+use Rattle.runs.specs.Queueing.{Queue, Service}
+use Rattle.runs.specs.Runs.{Call, Run, turn, configuration_of, history, loaded_after, served_by}
+use Rattle.runs.specs.SpeakerState.{SpeakerState}
+use Rattle.routing.specs.Tables.{Tables, best_at, network_route, payloads_under, peer_route_at}
+use Rattle.runs.specs.declared.config.Config.{Config}
+use Rattle.runs.proofs.SlotStates.{slot_session}
+use Rattle.runs.proofs.PeerRoutes.{peers_same}
+use Rattle.routing.proofs.Exported.{best_short}
 
 -- From the slots to the whole: what the selection reads, what is exported, and what a call queues.
 

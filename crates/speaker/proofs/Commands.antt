@@ -38,36 +38,36 @@ use Rattle.net_prefix.specs.declared.prefix.Prefix.{Prefix}
 use Rattle.net_prefix.specs.declared.transport.Transport.{Transport}
 use Rattle.net_prefix.specs.declared.transport.Transport.TheVariants.{Open as Connected}
 use Rattle.rib_in.specs.LatestRoutes.{HasRoute, RouteTable, is_route, route_at}
-use Rattle.speaker.specs.AdjRibIn.{route}
-use Rattle.speaker.specs.Agreement.{CacheAgrees, SlotAgrees, IsTaken, Holds, HoldsBy}
+use Rattle.runs.specs.AdjRibIn.{route}
+use Rattle.runs.specs.Agreement.{CacheAgrees, SlotAgrees, IsTaken, Holds, HoldsBy}
 use Rattle.rtr_session.specs.SessionHistory as cached
-use Rattle.speaker.proofs.Histories.{no_route}
-use Rattle.speaker.proofs.SlotStates.{SlotIs, slot_agrees, configured_from}
-use Rattle.speaker.specs.Choices.{choices_by, choices_commanded, choices_in, is_known, named_to}
-use Rattle.routes.specs.Chosen.{how_many, AreDifferent, OncePerPrefix}
+use Rattle.runs.proofs.Histories.{no_route}
+use Rattle.runs.proofs.SlotStates.{SlotIs, slot_agrees, configured_from}
+use Rattle.runs.specs.Choices.{choices_by, choices_commanded, choices_in, is_known, named_to}
+use Rattle.routing.specs.Chosen.{how_many, AreDifferent, OncePerPrefix}
 use Rattle.speaker.specs.Chosen.{Chooses}
-use Rattle.speaker.specs.FirstRefusal.{refused_at, awaits_up, is_open}
-use Rattle.routes.specs.Linked.{Linked, moved}
-use Rattle.routes.specs.Offers.{AreKept, AreMadeAgain, AreMadeWhere}
+use Rattle.runs.specs.FirstRefusal.{refused_at, awaits_up, is_open}
+use Rattle.routing.specs.Linked.{Linked, moved}
+use Rattle.routing.specs.Offers.{AreKept, AreMadeAgain, AreMadeWhere}
 use Rattle.routes.specs.Commands.{resolves}
 use Rattle.speaker.specs.Moves.{Announces, Moves, IsPut}
-use Rattle.speaker.specs.Runs.{Call, Run, turn, Up_call, Fail_call, Bytes_call, Starved_call, Tick_call, Command_call, Take_call, Cache_up_call, Cache_fail_call, Cache_bytes_call, Cache_starved_call, Cache_take_call, cache_history, commanded, conf_called, configuration_of, history, moment_after, opened_commanded, terms_in}
-use Rattle.speaker.specs.SlotTimes.{times_at}
-use Rattle.speaker.specs.SpeakerState.{SpeakerState, in_force_of, tables_of}
-use Rattle.routes.specs.Tables.{link_at, network_route, payloads_under, peer_route_at, session_at, tables}
-use Rattle.speaker.specs.declared.config.Config.{Config}
+use Rattle.runs.specs.Runs.{Call, Run, turn, Up_call, Fail_call, Bytes_call, Starved_call, Tick_call, Command_call, Take_call, Cache_up_call, Cache_fail_call, Cache_bytes_call, Cache_starved_call, Cache_take_call, cache_history, commanded, conf_called, configuration_of, history, moment_after, opened_commanded, terms_in}
+use Rattle.runs.specs.SlotTimes.{times_at}
+use Rattle.runs.specs.SpeakerState.{SpeakerState, in_force_of, tables_of}
+use Rattle.routing.specs.Tables.{link_at, network_route, payloads_under, peer_route_at, session_at, tables}
+use Rattle.runs.specs.declared.config.Config.{Config}
 use Rattle.speaker.proofs.AllowedChoices.{most_known, most_routes, signal_few}
 use Rattle.speaker.proofs.Calls.{slots_changed}
-use Rattle.routes.proofs.Counting.{different_as}
+use Rattle.routing.proofs.Counting.{different_as}
 use Rattle.speaker.proofs.Events.{put_by, slot_is, slot_now, slot_of}
-use Rattle.speaker.proofs.Moments.{moment_same}
-use Rattle.routes.proofs.KeptOffers.{IsAlike, taken_by, kept_gone, kept_network}
+use Rattle.runs.proofs.Moments.{moment_same}
+use Rattle.routing.proofs.KeptOffers.{IsAlike, taken_by, kept_gone, kept_network}
 use Rattle.speaker.proofs.KeptOffers.{in_force_same, kept_added, kept_again, kept_conf, kept_partly, moves_keep}
-use Rattle.speaker.proofs.KnownPrefixes.{IsKnown, known_of}
-use Rattle.speaker.proofs.PeerRoutes.{agrees_peers, peer_as}
-use Rattle.routes.proofs.Places.{same_from_is_prefix}
-use Rattle.routes.proofs.RouteChanges.{is_route-parts, second_true}
-use Rattle.speaker.proofs.SlotOctets.{slot_signalled}
+use Rattle.runs.proofs.KnownPrefixes.{IsKnown, known_of}
+use Rattle.runs.proofs.PeerRoutes.{agrees_peers, peer_as}
+use Rattle.routing.proofs.Places.{same_from_is_prefix}
+use Rattle.routing.proofs.RouteChanges.{is_route-parts, second_true}
+use Rattle.runs.proofs.SlotOctets.{slot_signalled}
 
 -- Connections that stand or fail, and commands, as the run with them has them.
 

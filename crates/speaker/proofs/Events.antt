@@ -23,36 +23,36 @@ use Rattle.net_prefix.specs.declared.prefix.Prefix.{Prefix}
 use Rattle.net_prefix.specs.declared.transport.Transport.{Transport}
 use Rattle.net_prefix.specs.declared.transport.Transport.TheVariants.{None as NoConnection, Opening, Listening, Open as Connected, Closing}
 use Rattle.rib_in.specs.LatestRoutes.{route_at}
-use Rattle.routes.specs.Updates.{NeedsMemory, is_among, sound_update, word_if}
-use Rattle.routes.specs.Heard.{TakesMemoryAt, update_heard}
-use Rattle.speaker.specs.AdjRibIn.{brought, route}
-use Rattle.speaker.specs.Agreement.{Agrees, Hears, HearsUntil, CacheAgrees, HoldsBy, IsFair, IsThrifty, MayStarve, SlotAgrees, Holds}
-use Rattle.speaker.proofs.SlotStates.{SlotIs, slot_agrees, slot_from, linked_from}
-use Rattle.routes.specs.Chosen.{named_if, AreDifferent, Ends}
-use Rattle.speaker.specs.Choices.{choices_by, choices_in, choices_on, routes_held}
-use Rattle.routes.specs.Linked.{Linked, moved, taken_on, taken_of}
+use Rattle.routing.specs.Updates.{NeedsMemory, is_among, sound_update, word_if}
+use Rattle.routing.specs.Heard.{TakesMemoryAt, update_heard}
+use Rattle.runs.specs.AdjRibIn.{brought, route}
+use Rattle.runs.specs.Agreement.{Agrees, Hears, HearsUntil, CacheAgrees, HoldsBy, IsFair, IsThrifty, MayStarve, SlotAgrees, Holds}
+use Rattle.runs.proofs.SlotStates.{SlotIs, slot_agrees, slot_from, linked_from}
+use Rattle.routing.specs.Chosen.{named_if, AreDifferent, Ends}
+use Rattle.runs.specs.Choices.{choices_by, choices_in, choices_on, routes_held}
+use Rattle.routing.specs.Linked.{Linked, moved, taken_on, taken_of}
 use Rattle.speaker.specs.Moves.{KeepsKept, KeepsRest, IsPut, Moves, Pushes, TakesItem}
-use Rattle.speaker.specs.Queueing.{Queue, starved_in}
-use Rattle.speaker.specs.declared.event.Report.{Report}
+use Rattle.runs.specs.Queueing.{Queue, starved_in}
+use Rattle.runs.specs.declared.event.Report.{Report}
 use Rattle.std.specs.Int.Bits.{bit_or}
-use Rattle.speaker.specs.Runs.{Call, Run, Turn, cache_history, cache_opened_by, cache_starved_by, report_of, turn, asked, starved_by, Bytes_call, Starved_call, configuration_of, history, moment_after, opened_by, terms_in}
+use Rattle.runs.specs.Runs.{Call, Run, Turn, cache_history, cache_opened_by, cache_starved_by, report_of, turn, asked, starved_by, Bytes_call, Starved_call, configuration_of, history, moment_after, opened_by, terms_in}
 use Rattle.rtr_codec.specs.ClientTable.{in_force}
 use Rattle.rtr_session.specs.SessionHistory as cached
-use Rattle.speaker.specs.SpeakerState.{SpeakerState}
-use Rattle.routes.specs.Tables.{network_route, link_at, peer_route_at}
-use Rattle.speaker.specs.declared.config.Config.{Config}
+use Rattle.runs.specs.SpeakerState.{SpeakerState}
+use Rattle.routing.specs.Tables.{network_route, link_at, peer_route_at}
+use Rattle.runs.specs.declared.config.Config.{Config}
 use Rattle.speaker.proofs.AllowedChoices.{choices_append, choices_last, item_few, most_routes}
 use Rattle.speaker.proofs.Calls.{slots_changed}
-use Rattle.speaker.proofs.Coming.{HasCome, Joins}
-use Rattle.routes.proofs.Counting.{different_as}
-use Rattle.speaker.proofs.Histories.{route_stays}
+use Rattle.runs.proofs.Coming.{HasCome, Joins}
+use Rattle.routing.proofs.Counting.{different_as}
+use Rattle.runs.proofs.Histories.{route_stays}
 use Rattle.speaker.proofs.KeptOffers.{moves_keep, pushes_keep}
 use Rattle.speaker.proofs.Messages.{rest_kept}
-use Rattle.speaker.proofs.Moments.{moment_same, onto_stays}
-use Rattle.speaker.proofs.Refreshing.{asked_stays}
-use Rattle.speaker.proofs.SlotEvents.{with_peer}
-use Rattle.speaker.proofs.SlotOctets.{agrees_dropped, slot_pushed, slot_signalled, slot_taken, slot_shut, WithRest}
-use Rattle.speaker.proofs.PeerRoutes.{agrees_peers, is_routes, not_local}
+use Rattle.runs.proofs.Moments.{moment_same, onto_stays}
+use Rattle.runs.proofs.Refreshing.{asked_stays}
+use Rattle.runs.proofs.SlotEvents.{with_peer}
+use Rattle.runs.proofs.SlotOctets.{agrees_dropped, slot_pushed, slot_signalled, slot_taken, slot_shut, WithRest}
+use Rattle.runs.proofs.PeerRoutes.{agrees_peers, is_routes, not_local}
 
 -- What each event makes of the speaker, as the run with it has it.
 

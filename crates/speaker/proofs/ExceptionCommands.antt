@@ -15,18 +15,18 @@ use Rattle.net_prefix.specs.declared.prefix.Prefix.{Prefix}
 use Rattle.origin_valid.proofs.Touches.{untouched_states}
 use Rattle.origin_valid.specs.Touched.{is_touched}
 use Rattle.rib_in.specs.LatestRoutes.{HasRoute, route_at}
-use Rattle.routes.proofs.Counting.{different_as}
-use Rattle.routes.specs.Chosen.{OncePerPrefix}
-use Rattle.routes.specs.Offers.{AreMadeWhere}
-use Rattle.routes.specs.Tables.{link_at, network_route, payloads_under, peer_route_at}
-use Rattle.speaker.specs.Agreement.{AreTaken, CacheAgrees, Holds, SlotAgrees}
-use Rattle.speaker.specs.Choices.{choices_commanded, choices_excepted, choices_in}
-use Rattle.speaker.specs.Runs.{Run, turn, Command_call, cache_history, commanded, configuration_of, history, loaded_after, moment_after, opened_commanded, payloads_after}
-use Rattle.speaker.specs.SpeakerState.{SpeakerState, in_force_of, tables_of}
-use Rattle.speaker.specs.declared.config.Config.{Config}
+use Rattle.routing.proofs.Counting.{different_as}
+use Rattle.routing.specs.Chosen.{OncePerPrefix}
+use Rattle.routing.specs.Offers.{AreMadeWhere}
+use Rattle.routing.specs.Tables.{link_at, network_route, payloads_under, peer_route_at}
+use Rattle.runs.specs.Agreement.{AreTaken, CacheAgrees, Holds, SlotAgrees}
+use Rattle.runs.specs.Choices.{choices_commanded, choices_excepted, choices_in}
+use Rattle.runs.specs.Runs.{Run, turn, Command_call, cache_history, commanded, configuration_of, history, loaded_after, moment_after, opened_commanded, payloads_after}
+use Rattle.runs.specs.SpeakerState.{SpeakerState, in_force_of, tables_of}
+use Rattle.runs.specs.declared.config.Config.{Config}
 use Rattle.speaker.proofs.AllowedChoices.{most_touched}
 use Rattle.speaker.proofs.KeptOffers.{kept_touched}
-use Rattle.speaker.proofs.KnownPrefixes.{IsKnown, known_of}
+use Rattle.runs.proofs.KnownPrefixes.{IsKnown, known_of}
 
 -- Commands of local exceptions, as the run with them has them.
 

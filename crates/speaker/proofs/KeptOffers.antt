@@ -17,14 +17,14 @@ use Rattle.net_prefix.specs.declared.prefix.Prefix.{Prefix}
 use Rattle.local_exceptions.specs.ExceptionSets.{under}
 use Rattle.origin_valid.specs.Validity.{validity}
 use Rattle.rib_in.specs.LatestRoutes.{route_at}
-use Rattle.routes.specs.Linked.{Linked, moved}
+use Rattle.routing.specs.Linked.{Linked, moved}
 use Rattle.speaker.specs.Moves.{Hands, IsPut, KeepsKept, Moves, Pushes}
-use Rattle.routes.specs.Offers.{AreKept, AreMadeAgain, AreMadeWhere, IsOffer, IsSource, Offers}
+use Rattle.routing.specs.Offers.{AreKept, AreMadeAgain, AreMadeWhere, IsOffer, IsSource, Offers}
 use Rattle.speaker.specs.Serving.{IsStill, IsToldAt}
-use Rattle.speaker.specs.SpeakerState.{SpeakerState, in_force_of, tables_of}
-use Rattle.routes.specs.Tables.{link_at, session_at, tables}
-use Rattle.routes.proofs.CandidateLists.{none_routed}
-use Rattle.routes.proofs.KeptOffers.{same_action, taken_by, IsAlike, offer_alike, offer_unrouted, up_of, up_as, source_of, some_once, lasting, session_linked, no_none, some_if, kept_same}
+use Rattle.runs.specs.SpeakerState.{SpeakerState, in_force_of, tables_of}
+use Rattle.routing.specs.Tables.{link_at, session_at, tables}
+use Rattle.routing.proofs.CandidateLists.{none_routed}
+use Rattle.routing.proofs.KeptOffers.{same_action, taken_by, IsAlike, offer_alike, offer_unrouted, up_of, up_as, source_of, some_once, lasting, session_linked, no_none, some_if, kept_same}
 
 -- under the same exceptions the same payloads are in force
 pub in_force_same : (old new : SpeakerState) → new.conf.exceptions ≡ old.conf.exceptions → new.payloads ≡ old.payloads → in_force_of new ≡ in_force_of old

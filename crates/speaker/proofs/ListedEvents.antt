@@ -6,24 +6,24 @@ use Rattle.decision.specs.BookContents.{offer_at}
 use Rattle.bgp_attr.specs.PathAttributes.{PathAttributes}
 use Rattle.bgp_conf.specs.Configuration.{peer_at}
 use Rattle.net_prefix.specs.declared.prefix.Prefix.{Prefix}
-use Rattle.speaker.specs.Agreement.{CacheAgrees, Agrees, SlotAgrees, tables_after}
-use Rattle.routes.specs.LocRib.{HasNoCandidate}
-use Rattle.routes.specs.Tables.{link_at, network_route}
-use Rattle.routes.proofs.CandidateLists.{none_routed}
-use Rattle.speaker.proofs.PeerRoutes.{peer_none, peers_same}
+use Rattle.runs.specs.Agreement.{CacheAgrees, Agrees, SlotAgrees, tables_after}
+use Rattle.routing.specs.LocRib.{HasNoCandidate}
+use Rattle.routing.specs.Tables.{link_at, network_route}
+use Rattle.routing.proofs.CandidateLists.{none_routed}
+use Rattle.runs.proofs.PeerRoutes.{peer_none, peers_same}
 use Rattle.rtr_session.specs.SessionState.{configured}
-use Rattle.speaker.specs.FirstRefusal.{refusal_in, refusal_of, Grows, LacksMemory}
-use Rattle.routes.specs.Linked.{Linked}
-use Rattle.speaker.specs.Played.{Follows, GoesOn, IsPlayed, Point, beginning}
-use Rattle.speaker.specs.Runs.{cache_history, history, Run, Turn, asked, call_of, configuration_of, report_of}
-use Rattle.speaker.specs.SpeakerState.{SpeakerState, IsAsBefore, started, tables_of}
-use Rattle.speaker.specs.declared.config.Config.{Config}
-use Rattle.speaker.specs.declared.event.Event.{Event}
-use Rattle.speaker.specs.declared.event.Report.{Report}
-use Rattle.routes.proofs.KeptOffers.{kept_same}
+use Rattle.runs.specs.FirstRefusal.{refusal_in, refusal_of, Grows, LacksMemory}
+use Rattle.routing.specs.Linked.{Linked}
+use Rattle.runs.specs.Played.{Follows, GoesOn, IsPlayed, Point, beginning}
+use Rattle.runs.specs.Runs.{cache_history, history, Run, Turn, asked, call_of, configuration_of, report_of}
+use Rattle.runs.specs.SpeakerState.{SpeakerState, IsAsBefore, started, tables_of}
+use Rattle.runs.specs.declared.config.Config.{Config}
+use Rattle.runs.specs.declared.event.Event.{Event}
+use Rattle.runs.specs.declared.event.Report.{Report}
+use Rattle.routing.proofs.KeptOffers.{kept_same}
 use Rattle.speaker.proofs.KeptOffers.{in_force_kept}
 use Rattle.speaker.proofs.Refusals.{refusal_same}
-use Rattle.routes.proofs.WaitingLists.{nothing_rises}
+use Rattle.routing.proofs.WaitingLists.{nothing_rises}
 
 -- Lists of events.
 

@@ -12,15 +12,15 @@ use Rattle.bgp_peer.specs.SessionInputs.{Terms, input_of}
 use Rattle.decision.specs.BookContents.{offer_at}
 use Rattle.net_prefix.specs.declared.prefix.Prefix.{Prefix}
 use Rattle.rib_in.specs.LatestRoutes.{RouteTable, route_at}
-use Rattle.routes.specs.Updates.{is_among, word_if}
-use Rattle.routes.specs.Heard.{IsHeard, update_heard}
-use Rattle.routes.specs.Chosen.{Ends, named_if}
+use Rattle.routing.specs.Updates.{is_among, word_if}
+use Rattle.routing.specs.Heard.{IsHeard, update_heard}
+use Rattle.routing.specs.Chosen.{Ends, named_if}
 use Rattle.speaker.specs.Chosen.{Chooses, ChoosesHeard}
-use Rattle.routes.specs.Linked.{Linked, moved}
+use Rattle.routing.specs.Linked.{Linked, moved}
 use Rattle.speaker.specs.Moves.{KeepsKept, KeepsRest, Moves, TakesItem}
-use Rattle.speaker.specs.SpeakerState.{SpeakerState}
-use Rattle.routes.specs.Tables.{link_at}
-use Rattle.routes.proofs.Counting.{different_as}
+use Rattle.runs.specs.SpeakerState.{SpeakerState}
+use Rattle.routing.specs.Tables.{link_at}
+use Rattle.routing.proofs.Counting.{different_as}
 use Rattle.speaker.proofs.KeptOffers.{moves_keep}
 
 -- The message at the front of a slot's rest.

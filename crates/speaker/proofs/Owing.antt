@@ -3,7 +3,7 @@ use Rattle.std.specs.Option.{IsSome}
 use Rattle.std.specs.Str.{bytes_eq}
 use Rattle.std.proofs.lemmas.Slice.Eq.{bytes_eq-Decides}
 use Rattle.net_prefix.specs.declared.prefix.Prefix.{Prefix}
-use Rattle.routes.specs.Owing.{announced_of, withdrawn_of}
+use Rattle.routing.specs.Owing.{announced_of, withdrawn_of}
 use Rattle.speaker.specs.Serving.{IsGone, IsHad}
 
 -- What a served peer is owed, by what is exported to it, what it holds and what it has asked for again.

@@ -24,38 +24,38 @@ use Rattle.net_prefix.specs.PrefixOrder.{prefix_cmp}
 use Rattle.net_prefix.specs.declared.prefix.Prefix.{Prefix}
 use Rattle.rib_in.specs.LatestRoutes.{route_at}
 use Rattle.rib_out.specs.Held.{is_among}
-use Rattle.speaker.specs.AdjRibIn.{route}
-use Rattle.speaker.specs.Agreement.{IsLowest, LinkAgrees, SlotAgrees, tables_after, IsFair, IsNews, IsOwedIn, IsShortIn, IsThrifty, Holds, Passes, QueuesAll, QueuesOn, QueuesStarved, Agrees}
-use Rattle.speaker.specs.Choices.{choices_in}
+use Rattle.runs.specs.AdjRibIn.{route}
+use Rattle.runs.specs.Agreement.{IsLowest, LinkAgrees, SlotAgrees, tables_after, IsFair, IsNews, IsOwedIn, IsShortIn, IsThrifty, Holds, Passes, QueuesAll, QueuesOn, QueuesStarved, Agrees}
+use Rattle.runs.specs.Choices.{choices_in}
 use Rattle.speaker.specs.Chosen.{Chooses}
-use Rattle.routes.specs.Export.{IsAccepted, IsExport, export_peer_of}
+use Rattle.routing.specs.Export.{IsAccepted, IsExport, export_peer_of}
 use Rattle.speaker.specs.Export.{export_to}
-use Rattle.speaker.specs.Held.{held}
-use Rattle.speaker.specs.Refreshes.{asked}
-use Rattle.routes.specs.Linked.{Linked}
-use Rattle.routes.specs.LocRib.{HasNoCandidate, IsBest, IsLocRib}
-use Rattle.routes.specs.Candidates.{IsCandidate, IsPeerCandidate}
-use Rattle.routes.specs.Offers.{AreKept}
+use Rattle.runs.specs.Held.{held}
+use Rattle.runs.specs.Refreshes.{asked}
+use Rattle.routing.specs.Linked.{Linked}
+use Rattle.routing.specs.LocRib.{HasNoCandidate, IsBest, IsLocRib}
+use Rattle.routing.specs.Candidates.{IsCandidate, IsPeerCandidate}
+use Rattle.routing.specs.Offers.{AreKept}
 use Rattle.speaker.specs.Moves.{Moves}
-use Rattle.speaker.specs.Queueing.{ComesFirst, Queue, Starves, Tells, IsServed, starved_in}
-use Rattle.routes.specs.Packing.{IsDue, IsFrom, IsNewTo, IsPack, room_beside}
-use Rattle.routes.specs.Told.{update_saying, HasRoom}
-use Rattle.routes.specs.Places.{rank_of}
-use Rattle.speaker.specs.Runs.{payloads_after, Call, Run, turn, configuration_of, history}
+use Rattle.runs.specs.Queueing.{ComesFirst, Queue, Starves, Tells, IsServed, starved_in}
+use Rattle.routing.specs.Packing.{IsDue, IsFrom, IsNewTo, IsPack, room_beside}
+use Rattle.routing.specs.Told.{update_saying, HasRoom}
+use Rattle.routing.specs.Places.{rank_of}
+use Rattle.runs.specs.Runs.{payloads_after, Call, Run, turn, configuration_of, history}
 use Rattle.speaker.specs.Serving.{AreServedBelow, IsServedAt, IsShortAt, IsStill, IsToldAt}
-use Rattle.speaker.specs.SpeakerState.{SpeakerState, tables_of}
-use Rattle.routes.specs.Tables.{Tables, best_at, link_at, network_route, peer_route_at}
-use Rattle.speaker.specs.declared.config.Config.{Config}
-use Rattle.routes.proofs.Exported.{best_candidate, export_is}
+use Rattle.runs.specs.SpeakerState.{SpeakerState, tables_of}
+use Rattle.routing.specs.Tables.{Tables, best_at, link_at, network_route, peer_route_at}
+use Rattle.runs.specs.declared.config.Config.{Config}
+use Rattle.routing.proofs.Exported.{best_candidate, export_is}
 use Rattle.speaker.proofs.Calls.{tables_same, export_peer_found, export_short, at_slot, off_slot}
 use Rattle.speaker.proofs.Commands.{holds_signalled, own_is, peer_of}
 use Rattle.speaker.proofs.Events.{holds_put, slot_is}
-use Rattle.speaker.proofs.Histories.{route_stays}
+use Rattle.runs.proofs.Histories.{route_stays}
 use Rattle.routes.proofs.OneBest.{same_export}
-use Rattle.routes.proofs.KeptOffers.{kept_loc_rib}
+use Rattle.routing.proofs.KeptOffers.{kept_loc_rib}
 use Rattle.speaker.proofs.KeptOffers.{kept_still_links, kept_told}
-use Rattle.speaker.proofs.QueuedUpdates.{CanBeSaid, IsGood, saying_faultless, slot_queued, saying_is_update, saying_names, saying_says, named_is}
-use Rattle.speaker.proofs.SlotStates.{SlotIs, linked_from}
+use Rattle.runs.proofs.QueuedUpdates.{CanBeSaid, IsGood, saying_faultless, slot_queued, saying_is_update, saying_names, saying_says, named_is}
+use Rattle.runs.proofs.SlotStates.{SlotIs, linked_from}
 
 -- The queueing of a call: each UPDATE was owed, and with room each peer holds its export.
 

@@ -4,13 +4,13 @@ use Rattle.bgp_conf.specs.declared.refusal.Refusal.TheVariants.{BadSlot}
 use Rattle.rtr_codec.specs.ClientTable.{transport_of as client_transport}
 use Rattle.rtr_session.specs.SessionHistory as cache
 use Rattle.rtr_session.specs.SessionState.{Session as CacheSession}
-use Rattle.speaker.specs.Agreement.{Agrees, CacheAgrees, tables_after}
-use Rattle.speaker.specs.FirstRefusal.{cache_transport_after, cache_transport_of, refusal_by, refusal_in, refusal_of, take_refusal_in, take_refusal_of}
-use Rattle.speaker.specs.Runs.{Run, cache_history, moment_after}
-use Rattle.speaker.specs.SpeakerState.{SpeakerState, tables_of}
-use Rattle.routes.specs.Tables.{link_at}
-use Rattle.speaker.specs.declared.config.Config.{Config}
-use Rattle.speaker.specs.declared.event.Event.{Event}
+use Rattle.runs.specs.Agreement.{Agrees, CacheAgrees, tables_after}
+use Rattle.runs.specs.FirstRefusal.{cache_transport_after, cache_transport_of, refusal_by, refusal_in, refusal_of, take_refusal_in, take_refusal_of}
+use Rattle.runs.specs.Runs.{Run, cache_history, moment_after}
+use Rattle.runs.specs.SpeakerState.{SpeakerState, tables_of}
+use Rattle.routing.specs.Tables.{link_at}
+use Rattle.runs.specs.declared.config.Config.{Config}
+use Rattle.runs.specs.declared.event.Event.{Event}
 use Rattle.speaker.proofs.Calls.{tables_same}
 
 -- A speaker that agrees with a run refuses as the run says.

@@ -20,29 +20,29 @@ use Rattle.bgp_peer.specs.SessionInputs.{Signalled, moment_of, occupant, session
 use Rattle.decision.specs.BookContents.{offer_at}
 use Rattle.net_prefix.specs.declared.prefix.Prefix.{Prefix}
 use Rattle.rib_in.specs.LatestRoutes.{route_at}
-use Rattle.speaker.specs.Agreement.{CacheAgrees, AreTaken, Holds, LinkAgrees, SlotAgrees}
+use Rattle.runs.specs.Agreement.{CacheAgrees, AreTaken, Holds, LinkAgrees, SlotAgrees}
 use Rattle.rtr_codec.specs.ClientTable.{in_force}
 use Rattle.rtr_session.specs.SessionHistory.{client}
-use Rattle.speaker.specs.Choices.{choices_in}
-use Rattle.routes.specs.Chosen.{AreDifferent}
+use Rattle.runs.specs.Choices.{choices_in}
+use Rattle.routing.specs.Chosen.{AreDifferent}
 use Rattle.speaker.specs.Chosen.{Chooses}
-use Rattle.speaker.specs.FirstRefusal.{closes}
-use Rattle.routes.specs.Linked.{Linked, moved}
+use Rattle.runs.specs.FirstRefusal.{closes}
+use Rattle.routing.specs.Linked.{Linked, moved}
 use Rattle.speaker.specs.Moves.{Forgets, IsWithout, Moves}
-use Rattle.speaker.specs.Runs.{cache_history, Run, turn, Command_call, Fail_call, configuration_of, history, moment_after, terms_in}
-use Rattle.speaker.specs.SpeakerState.{SpeakerState, tables_of}
-use Rattle.routes.specs.Tables.{link_at, session_at, network_route, peer_route_at}
-use Rattle.speaker.specs.declared.config.Config.{Config}
+use Rattle.runs.specs.Runs.{cache_history, Run, turn, Command_call, Fail_call, configuration_of, history, moment_after, terms_in}
+use Rattle.runs.specs.SpeakerState.{SpeakerState, tables_of}
+use Rattle.routing.specs.Tables.{link_at, session_at, network_route, peer_route_at}
+use Rattle.runs.specs.declared.config.Config.{Config}
 use Rattle.speaker.proofs.AllowedChoices.{signal_few}
 use Rattle.speaker.proofs.Calls.{slots_changed}
 use Rattle.speaker.proofs.Commands.{holds_signalled}
-use Rattle.speaker.proofs.Histories.{no_route}
+use Rattle.runs.proofs.Histories.{no_route}
 use Rattle.speaker.proofs.KeptOffers.{kept_without}
-use Rattle.routes.proofs.KeptOffers.{none_offered}
-use Rattle.speaker.proofs.Moments.{moment_same}
-use Rattle.speaker.proofs.SlotEvents.{link_signalled}
-use Rattle.speaker.proofs.SlotStates.{link_alone}
-use Rattle.speaker.proofs.PeerRoutes.{agrees_peers, agrees_routes, not_local}
+use Rattle.routing.proofs.KeptOffers.{none_offered}
+use Rattle.runs.proofs.Moments.{moment_same}
+use Rattle.runs.proofs.SlotEvents.{link_signalled}
+use Rattle.runs.proofs.SlotStates.{link_alone}
+use Rattle.runs.proofs.PeerRoutes.{agrees_peers, agrees_routes, not_local}
 
 -- A peer that is removed, and a slot that is let go, as the run with them has it.
 

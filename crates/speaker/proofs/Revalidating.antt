@@ -5,9 +5,9 @@ use Rattle.decision.specs.BookContents.{offer_at}
 use Rattle.rtr_codec.specs.ClientTable.{in_force}
 use Rattle.rtr_session.specs.SessionState.{Session as CacheSession}
 use Rattle.speaker.specs.CacheMoves.{KeepsCache, Revalidates, RevalidatesFrom, concerns, last_change}
-use Rattle.routes.specs.Chosen.{OncePerPrefix}
-use Rattle.routes.specs.Offers.{AreMadeWhere}
-use Rattle.speaker.specs.SpeakerState.{SpeakerState, payloads_in, tables_of}
+use Rattle.routing.specs.Chosen.{OncePerPrefix}
+use Rattle.routing.specs.Offers.{AreMadeWhere}
+use Rattle.runs.specs.SpeakerState.{SpeakerState, payloads_in, tables_of}
 use Rattle.vrp_delta.specs.Delta.{change_between}
 
 -- The same, told of a state that is written otherwise.

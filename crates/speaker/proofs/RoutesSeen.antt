@@ -7,15 +7,15 @@ use Rattle.bgp_fsm.specs.declared.state.State.TheVariants.{Established}
 use Rattle.bgp_peer.specs.Slot.{handed}
 use Rattle.decision.specs.BookContents.{rows_of}
 use Rattle.net_prefix.specs.declared.prefix.Prefix.{Prefix}
-use Rattle.routes.specs.Linked.{Linked}
-use Rattle.routes.specs.Offers.{AreMadeWhere, Offers}
-use Rattle.routes.specs.RoutesState.{BringsNetwork, IsSet, RoutesState, StaysAsIs, TellsSlot, payloads_in_force, tables_in}
-use Rattle.routes.specs.Tables.{link_at, tables}
+use Rattle.routing.specs.Linked.{Linked}
+use Rattle.routing.specs.Offers.{AreMadeWhere, Offers}
+use Rattle.routing.specs.RoutesState.{BringsNetwork, IsSet, RoutesState, StaysAsIs, TellsSlot, payloads_in_force, tables_in}
+use Rattle.routing.specs.Tables.{link_at, tables}
 use Rattle.rtr_session.specs.SessionState.{Session as CacheSession}
 use Rattle.speaker.specs.Moves.{Announces, Hands}
 use Rattle.speaker.specs.Serving.{IsServedBy, IsStill, IsToldAt, IsUpAt}
-use Rattle.speaker.specs.SpeakerState.{IsAsBefore, SpeakerState}
-use Rattle.speaker.specs.declared.config.Config.{Config}
+use Rattle.runs.specs.SpeakerState.{IsAsBefore, SpeakerState}
+use Rattle.runs.specs.declared.config.Config.{Config}
 
 -- What a call of the routes makes of the speaker.
 

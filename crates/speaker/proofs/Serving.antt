@@ -8,21 +8,21 @@ use Rattle.export_rules.specs.declared.export.ExportPeer.{ExportPeer}
 use Rattle.net_prefix.specs.declared.prefix.Prefix.{Prefix}
 use Rattle.rib_out.specs.Held.{HeldRoute, asked_at, held_at, is_among}
 use Rattle.rib_out.proofs.HeldTables.{held_if_asked}
-use Rattle.speaker.specs.Agreement.{QueuesOn}
-use Rattle.routes.specs.Export.{IsAccepted, export_in, export_peer_of}
+use Rattle.runs.specs.Agreement.{QueuesOn}
+use Rattle.routing.specs.Export.{IsAccepted, export_in, export_peer_of}
 use Rattle.speaker.specs.Export.{export_to}
-use Rattle.routes.specs.Linked.{Linked}
+use Rattle.routing.specs.Linked.{Linked}
 use Rattle.speaker.specs.Serving.{AreServedBelow, IsServedBy, IsServedAt, IsShortAt, IsUpAt, HasRoomAt, IsOfSlot, IsStill, IsToldAt, Serves, Stand, IsDoneAt, IsDoneOf, IsGone, IsHad, is_standing}
-use Rattle.routes.specs.Owing.{IsNext, announced_of, withdrawn_of}
-use Rattle.speaker.specs.Queueing.{ComesFirst}
-use Rattle.routes.specs.Packing.{IsDue, IsFrom, IsNewTo, IsPack, most_named, room_beside}
-use Rattle.routes.specs.Places.{rank_of}
-use Rattle.routes.specs.Told.{update_saying, HasRoom}
-use Rattle.speaker.specs.SpeakerState.{SpeakerState}
-use Rattle.routes.specs.Tables.{best_at, link_at}
+use Rattle.routing.specs.Owing.{IsNext, announced_of, withdrawn_of}
+use Rattle.runs.specs.Queueing.{ComesFirst}
+use Rattle.routing.specs.Packing.{IsDue, IsFrom, IsNewTo, IsPack, most_named, room_beside}
+use Rattle.routing.specs.Places.{rank_of}
+use Rattle.routing.specs.Told.{update_saying, HasRoom}
+use Rattle.runs.specs.SpeakerState.{SpeakerState}
+use Rattle.routing.specs.Tables.{best_at, link_at}
 use Rattle.speaker.proofs.Owing.{announced_news, gone_idle, had_idle}
 use Rattle.speaker.proofs.Passing.{Accepts, QueuesOn-more, QueuesOn-none, queues_told, queues_still}
-use Rattle.routes.proofs.Places.{reached, above_from_rank, same_from_rank, IsPlace, none_between}
+use Rattle.routing.proofs.Places.{reached, above_from_rank, same_from_rank, IsPlace, none_between}
 
 -- the slots with one that has gone on
 slot_only : (slot : ℕ) (old new : SpeakerState) (l : Linked) → ((s : ℕ) → link_at new.links s ≡ cond (s == slot) (Some l) (link_at old.links s)) → (s : ℕ) → s ≢ slot → link_at new.links s ≡ link_at old.links s

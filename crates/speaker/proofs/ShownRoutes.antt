@@ -17,21 +17,21 @@ use Rattle.rib_out.specs.Held.{is_prefix}
 use Rattle.rtr_client.specs.Following.{state_of}
 use Rattle.rtr_session.specs.SessionHistory as cached
 use Rattle.rtr_session.specs.SessionState.{Session as CacheSession}
-use Rattle.speaker.specs.AdjRibIn.{route}
+use Rattle.runs.specs.AdjRibIn.{route}
 use Rattle.decision.specs.declared.candidate.Candidate.{Candidate}
-use Rattle.speaker.specs.Agreement.{Agrees, CacheAgrees, SlotAgrees, tables_after}
-use Rattle.speaker.specs.Held.{held}
-use Rattle.routes.specs.Linked.{Linked}
-use Rattle.speaker.specs.Runs.{Run, cache_history, history}
+use Rattle.runs.specs.Agreement.{Agrees, CacheAgrees, SlotAgrees, tables_after}
+use Rattle.runs.specs.Held.{held}
+use Rattle.routing.specs.Linked.{Linked}
+use Rattle.runs.specs.Runs.{Run, cache_history, history}
 use Rattle.speaker.specs.Shown.{cache_state_after, cache_state_of, held_by}
-use Rattle.speaker.specs.SpeakerState.{SpeakerState, tables_of}
-use Rattle.routes.specs.LocRib.{HasNoCandidate, IsBest, IsLocRib}
-use Rattle.routes.specs.Tables.{Tables, best_at, configured_session, link_at, session_at, peer_route_at}
-use Rattle.speaker.specs.declared.config.Config.{Config}
+use Rattle.runs.specs.SpeakerState.{SpeakerState, tables_of}
+use Rattle.routing.specs.LocRib.{HasNoCandidate, IsBest, IsLocRib}
+use Rattle.routing.specs.Tables.{Tables, best_at, configured_session, link_at, session_at, peer_route_at}
+use Rattle.runs.specs.declared.config.Config.{Config}
 use Rattle.speaker.proofs.Calls.{slot_route, tables_same}
 use Rattle.routes.proofs.OneBest.{best_is_candidate, same_best}
-use Rattle.routes.proofs.Places.{same_from_is_prefix}
-use Rattle.speaker.proofs.SlotStates.{vacant_from}
+use Rattle.routing.proofs.Places.{same_from_is_prefix}
+use Rattle.runs.proofs.SlotStates.{vacant_from}
 
 -- What the views list is what the run has.
 

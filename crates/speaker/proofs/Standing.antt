@@ -1,14 +1,14 @@
 use Rattle.std.proofs.Common.{◌≡◌, ◌≢◌, ◌≤◌, ◌<◌, ◌+◌, ◌==◌, ℕ, zero, suc, Bool, true, false, cond, refl, ap, ◌∙◌, inl, inr, arith, [], ◌∷◌, ◌^◌, Option, Some}
 use Rattle.std.proofs.lemmas.Bool.{cases_eq, eq-eqb, ne_eqb}
-use Rattle.speaker.specs.Agreement.{QueuesAll, QueuesOn, QueuesStarved}
+use Rattle.runs.specs.Agreement.{QueuesAll, QueuesOn, QueuesStarved}
 use Rattle.std.specs.Int.Bits.{bit_or}
 use Rattle.bgp_fsm.specs.declared.input.Input.TheVariants.{NoMemory}
-use Rattle.routes.specs.Linked.{Linked, moved}
+use Rattle.routing.specs.Linked.{Linked, moved}
 use Rattle.speaker.specs.Moves.{Moves}
-use Rattle.speaker.specs.Queueing.{Starves}
+use Rattle.runs.specs.Queueing.{Starves}
 use Rattle.speaker.specs.Serving.{IsShortAt, is_standing}
-use Rattle.speaker.specs.SpeakerState.{SpeakerState}
-use Rattle.routes.specs.Tables.{link_at}
+use Rattle.runs.specs.SpeakerState.{SpeakerState}
+use Rattle.routing.specs.Tables.{link_at}
 
 -- How many sessions stand: each want of memory at the end of a call leaves one fewer.
 

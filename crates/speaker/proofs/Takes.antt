@@ -4,28 +4,28 @@ use Rattle.std.proofs.lemmas.Bool.{cases_eq, eq-eqb, ne_eqb}
 use Rattle.std.proofs.lemmas.List.{length-take}
 use Rattle.std.proofs.Math.Seq.{take-append_seam}
 use Rattle.bgp_conf.specs.Configuration.{peer_at}
-use Rattle.speaker.specs.Choices.{choices_in}
+use Rattle.runs.specs.Choices.{choices_in}
 use Rattle.bgp_peer.specs.SessionInputs as happens
 use Rattle.bgp_peer.specs.SessionInputs.{Handed}
 use Rattle.bgp_peer.specs.Slot.{handed}
 use Rattle.rib_in.specs.LatestRoutes.{route_at}
-use Rattle.speaker.specs.Agreement.{Holds, Agrees, Passes, QueuesAll, SlotAgrees, tables_after}
-use Rattle.routes.specs.Linked.{Linked}
-use Rattle.routes.specs.LocRib.{IsLocRib}
+use Rattle.runs.specs.Agreement.{Holds, Agrees, Passes, QueuesAll, SlotAgrees, tables_after}
+use Rattle.routing.specs.Linked.{Linked}
+use Rattle.routing.specs.LocRib.{IsLocRib}
 use Rattle.speaker.specs.Moves.{Hands}
-use Rattle.speaker.specs.Queueing.{Queue, starved_in}
-use Rattle.speaker.specs.Runs.{cache_history, Run, turn, Take_call, configuration_of, history, moment_after}
+use Rattle.runs.specs.Queueing.{Queue, starved_in}
+use Rattle.runs.specs.Runs.{cache_history, Run, turn, Take_call, configuration_of, history, moment_after}
 use Rattle.speaker.specs.Serving.{IsServedAt}
-use Rattle.speaker.specs.SpeakerState.{SpeakerState, tables_of}
-use Rattle.routes.specs.Tables.{link_at, peer_route_at}
-use Rattle.speaker.specs.declared.config.Config.{Config}
+use Rattle.runs.specs.SpeakerState.{SpeakerState, tables_of}
+use Rattle.routing.specs.Tables.{link_at, peer_route_at}
+use Rattle.runs.specs.declared.config.Config.{Config}
 use Rattle.speaker.proofs.Calls.{tables_same}
 use Rattle.speaker.proofs.Events.{begun, holds_begun, put_agrees}
 use Rattle.speaker.proofs.KeptOffers.{hands_keep, in_force_kept}
 use Rattle.speaker.proofs.Passing.{passes_first, agrees_served}
-use Rattle.speaker.proofs.SlotEvents.{with_peer}
-use Rattle.speaker.proofs.SlotOctets.{agrees_handed}
-use Rattle.speaker.proofs.PeerRoutes.{agrees_routes}
+use Rattle.runs.proofs.SlotEvents.{with_peer}
+use Rattle.runs.proofs.SlotOctets.{agrees_handed}
+use Rattle.runs.proofs.PeerRoutes.{agrees_routes}
 
 -- Octets that are handed out.
 

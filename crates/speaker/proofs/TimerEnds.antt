@@ -16,19 +16,19 @@ use Rattle.bgp_fsm.specs.declared.timers.Timer.TheVariants.{Hold, ConnectRetry, 
 use Rattle.bgp_peer.specs.SessionInputs as happens
 use Rattle.bgp_peer.specs.SessionInputs.{Signalled, Ticked, ending, endings, moment_of, session, ticked, timers}
 use Rattle.net_prefix.specs.declared.prefix.Prefix.{Prefix}
-use Rattle.speaker.specs.Agreement.{EndsAll, EndsTimers, Holds, HoldsBy, SlotAgrees}
-use Rattle.speaker.specs.Choices.{choices_cached, choices_endings, choices_in, choices_to}
+use Rattle.runs.specs.Agreement.{EndsAll, EndsTimers, Holds, HoldsBy, SlotAgrees}
+use Rattle.runs.specs.Choices.{choices_cached, choices_endings, choices_in, choices_to}
 use Rattle.speaker.specs.Chosen.{Chooses}
-use Rattle.routes.specs.Linked.{Linked}
+use Rattle.routing.specs.Linked.{Linked}
 use Rattle.speaker.specs.Moves.{Moves}
-use Rattle.speaker.specs.Runs.{cache_history, Run, turn, Tick_call, configuration_of, history, opened_by, opened_to, opens_by, report_of}
-use Rattle.speaker.specs.SpeakerState.{SpeakerState}
-use Rattle.routes.specs.Tables.{link_at, peer_route_at}
-use Rattle.speaker.specs.declared.config.Config.{Config}
+use Rattle.runs.specs.Runs.{cache_history, Run, turn, Tick_call, configuration_of, history, opened_by, opened_to, opens_by, report_of}
+use Rattle.runs.specs.SpeakerState.{SpeakerState}
+use Rattle.routing.specs.Tables.{link_at, peer_route_at}
+use Rattle.runs.specs.declared.config.Config.{Config}
 use Rattle.speaker.proofs.Commands.{signalled_by}
 use Rattle.rtr_session.specs.SessionHistory as cached
-use Rattle.speaker.proofs.Moments.{endings_stay}
-use Rattle.speaker.proofs.SlotStates.{vacant_from, vacant_or}
+use Rattle.runs.proofs.Moments.{endings_stay}
+use Rattle.runs.proofs.SlotStates.{vacant_from, vacant_or}
 
 -- Timers that end at a moment, as the histories of the slots have it.
 

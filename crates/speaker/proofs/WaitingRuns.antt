@@ -8,23 +8,23 @@ use Rattle.bgp_fsm.specs.declared.state.State.{State}
 use Rattle.bgp_fsm.specs.declared.state.State.TheVariants.{Idle, Connect, Active, OpenSent, OpenConfirm, Established}
 use Rattle.bgp_peer.specs.SentMessages.{ring_of}
 use Rattle.net_prefix.specs.declared.prefix.Prefix.{Prefix}
-use Rattle.speaker.specs.Agreement.{Agrees, tables_after}
-use Rattle.routes.specs.Export.{IsExport, export_in, export_peer_of}
+use Rattle.runs.specs.Agreement.{Agrees, tables_after}
+use Rattle.routing.specs.Export.{IsExport, export_in, export_peer_of}
 use Rattle.speaker.specs.Export.{export_to}
-use Rattle.speaker.specs.Held.{held}
-use Rattle.routes.specs.Linked.{Linked}
-use Rattle.routes.specs.LocRib.{IsLocRib}
-use Rattle.speaker.specs.Runs.{Run, configuration_of, history}
-use Rattle.speaker.specs.SpeakerState.{SpeakerState, tables_of}
-use Rattle.routes.specs.Tables.{Tables, best_at, link_at, peer_route_at}
-use Rattle.speaker.specs.Waiting.{IsWaitingIn, waiting_of}
-use Rattle.routes.specs.Waiting.{differing, known_prefixes, waiting_at}
-use Rattle.speaker.specs.declared.config.Config.{Config}
+use Rattle.runs.specs.Held.{held}
+use Rattle.routing.specs.Linked.{Linked}
+use Rattle.routing.specs.LocRib.{IsLocRib}
+use Rattle.runs.specs.Runs.{Run, configuration_of, history}
+use Rattle.runs.specs.SpeakerState.{SpeakerState, tables_of}
+use Rattle.routing.specs.Tables.{Tables, best_at, link_at, peer_route_at}
+use Rattle.runs.specs.Waiting.{IsWaitingIn, waiting_of}
+use Rattle.routing.specs.Waiting.{differing, known_prefixes, waiting_at}
+use Rattle.runs.specs.declared.config.Config.{Config}
 use Rattle.speaker.proofs.Calls.{export_peer_found, tables_same}
 use Rattle.routes.proofs.OneBest.{same_export}
 use Rattle.speaker.proofs.Passing.{export_of_run, news_by, news_to}
-use Rattle.speaker.proofs.SlotStates.{linked_from}
-use Rattle.routes.proofs.WaitingLists.{differing_is}
+use Rattle.runs.proofs.SlotStates.{linked_from}
+use Rattle.routing.proofs.WaitingLists.{differing_is}
 
 -- What waits, as the tables stand and as a run leaves it.
 

@@ -6,9 +6,9 @@ use Rattle.net_prefix.specs.declared.payload.Vrp.{Vrp}
 use Rattle.net_prefix.specs.declared.prefix.Prefix.{Prefix}
 use Rattle.origin_valid.specs.Stretches.{changed_prefixes, stretches}
 use Rattle.rib_in.specs.LatestRoutes.{HasRoute}
-use Rattle.routes.specs.Chosen.{OncePerPrefix}
-use Rattle.routes.specs.Offers.{AreMadeWhere, is_within}
-use Rattle.speaker.specs.SpeakerState.{SpeakerState, tables_of}
+use Rattle.routing.specs.Chosen.{OncePerPrefix}
+use Rattle.routing.specs.Offers.{AreMadeWhere, is_within}
+use Rattle.runs.specs.SpeakerState.{SpeakerState, tables_of}
 use Rattle.rtr_session.specs.SessionState.{Session as CacheSession}
 use Rattle.vrp_delta.specs.Delta.{Change, change_between}
 use Rattle.vrp_delta.specs.Keeping.{no_change}

@@ -4,9 +4,9 @@ use Rattle.std.specs.Option.{IsSome}
 use Rattle.bgp_msg.specs.UpdateMeaning.{UpdateBody}
 use Rattle.net_prefix.specs.declared.prefix.Prefix.{Prefix}
 use Rattle.rib_in.specs.LatestRoutes.{route_at}
-use Rattle.routes.specs.Updates.{word_if}
-use Rattle.routes.specs.Chosen.{named_if, AreDifferent, Ends}
-use Rattle.speaker.specs.SpeakerState.{SpeakerState}
+use Rattle.routing.specs.Updates.{word_if}
+use Rattle.routing.specs.Chosen.{named_if, AreDifferent, Ends}
+use Rattle.runs.specs.SpeakerState.{SpeakerState}
 
 -- a session takes an input: where it leaves Established, as above; else none is chosen
 pub record Chooses (slot : ℕ) (left : Bool) (old new : SpeakerState) : Type 0 where

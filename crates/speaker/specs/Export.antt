@@ -3,9 +3,9 @@ use Rattle.std.specs.Prelude.{ℕ, List, Option}
 use Rattle.std.specs.Option.{option_and_then}
 use Rattle.bgp_conf.specs.Configuration.{peer_at}
 use Rattle.net_prefix.specs.declared.prefix.Prefix.{Prefix}
-use Rattle.speaker.specs.SpeakerState.{SpeakerState}
-use Rattle.routes.specs.Tables.{best_at}
-use Rattle.routes.specs.Export.{export_peer_of, export_in}
+use Rattle.runs.specs.SpeakerState.{SpeakerState}
+use Rattle.routing.specs.Tables.{best_at}
+use Rattle.routing.specs.Export.{export_peer_of, export_in}
 
 -- the export to the peer of a slot; nothing where it isn't configured
 abbrev pub export_to : SpeakerState → ℕ → Prefix → Option (List ℕ)

@@ -10,18 +10,18 @@ use Rattle.decision.specs.BookContents.{offer_at}
 use Rattle.bgp_msg.specs.MessageStream.{Item}
 use Rattle.bgp_peer.specs.SessionInputs.{Terms, input_of}
 use Rattle.net_prefix.specs.declared.prefix.Prefix.{Prefix}
-use Rattle.routes.specs.Updates.{word_if}
-use Rattle.routes.specs.Heard.{update_heard}
+use Rattle.routing.specs.Updates.{word_if}
+use Rattle.routing.specs.Heard.{update_heard}
 use Rattle.rib_in.specs.LatestRoutes.{is_route, route_at}
 use Rattle.bgp_attr.specs.PathAttributes.{originated}
 use Rattle.decision.specs.declared.candidate.TheConstants.{LOCAL_SLOT}
-use Rattle.routes.specs.Candidates.{network_at}
+use Rattle.routing.specs.Candidates.{network_at}
 use Rattle.speaker.specs.Chosen.{ChoosesHeard}
-use Rattle.routes.specs.Chosen.{Ends}
-use Rattle.routes.specs.Linked.{Linked, moved}
-use Rattle.routes.specs.Offers.{AreKept}
-use Rattle.speaker.specs.SpeakerState.{SpeakerState, in_force_of, tables_of}
-use Rattle.routes.specs.Tables.{link_at}
+use Rattle.routing.specs.Chosen.{Ends}
+use Rattle.routing.specs.Linked.{Linked, moved}
+use Rattle.routing.specs.Offers.{AreKept}
+use Rattle.runs.specs.SpeakerState.{SpeakerState, in_force_of, tables_of}
+use Rattle.routing.specs.Tables.{link_at}
 
 -- the slot becomes another, and no other slot changes
 abbrev pub IsPut : ℕ → Linked → SpeakerState → SpeakerState → Type 0

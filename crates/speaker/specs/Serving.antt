@@ -7,15 +7,15 @@ use Rattle.bgp_fsm.specs.StateTests.{is_established}
 use Rattle.bgp_fsm.specs.declared.state.State.TheVariants.{Established}
 use Rattle.net_prefix.specs.declared.prefix.Prefix.{Prefix}
 use Rattle.rib_out.specs.Held.{asked_at, held_at, is_among}
-use Rattle.routes.specs.Linked.{Linked}
-use Rattle.speaker.specs.SpeakerState.{SpeakerState}
-use Rattle.routes.specs.Tables.{link_at}
-use Rattle.speaker.specs.Agreement.{QueuesOn}
+use Rattle.routing.specs.Linked.{Linked}
+use Rattle.runs.specs.SpeakerState.{SpeakerState}
+use Rattle.routing.specs.Tables.{link_at}
+use Rattle.runs.specs.Agreement.{QueuesOn}
 use Rattle.speaker.specs.Export.{export_to}
 use Rattle.speaker.specs.Moves.{IsPut}
-use Rattle.routes.specs.Told.{IsTold, HasRoom}
-use Rattle.routes.specs.Packing.{IsDue, IsFrom, IsNewTo, IsPack, room_beside}
-use Rattle.speaker.specs.Queueing.{ComesFirst, IsServed}
+use Rattle.routing.specs.Told.{IsTold, HasRoom}
+use Rattle.routing.specs.Packing.{IsDue, IsFrom, IsNewTo, IsPack, room_beside}
+use Rattle.runs.specs.Queueing.{ComesFirst, IsServed}
 
 -- the slot is that of an Established peer
 pub record IsServedBy (s : SpeakerState) (slot : ℕ) (l : Linked) : Type 0 where

@@ -20,9 +20,9 @@ use Rattle.rtr_client.specs.Following.{state_of}
 use Rattle.rtr_client.specs.declared.state.ClientState.{ClientState}
 use Rattle.rtr_session.specs.SessionHistory.{client}
 use Rattle.rtr_session.specs.SessionState.{Session as CacheSession}
-use Rattle.routes.specs.Linked.{Linked}
-use Rattle.speaker.specs.Runs.{Run, cache_history}
-use Rattle.speaker.specs.declared.config.Config.{Config}
+use Rattle.routing.specs.Linked.{Linked}
+use Rattle.runs.specs.Runs.{Run, cache_history}
+use Rattle.runs.specs.declared.config.Config.{Config}
 use Rattle.speaker.specs.declared.views.BestRoute.{BestRoute}
 
 -- a row of Loc-RIB

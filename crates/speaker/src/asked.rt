@@ -2,13 +2,13 @@
 ghost use Rattle.std.specs.Prelude.{◌≡◌};
 ghost use Rattle.std.specs.Option.{option_copied};
 ghost use Rattle.origin_valid.specs.Validity.{validity};
-ghost use Rattle.routes.specs.Offers.{IsOffer};
-ghost use Rattle.routes.specs.Tables.{peer_route_at};
-ghost use Rattle.speaker.specs.AdjRibIn.{route};
-ghost use Rattle.speaker.specs.Agreement.{Agrees, tables_after};
-ghost use Rattle.speaker.specs.Runs.{Run, configuration_of, history, payloads_after};
-ghost use Rattle.speaker.specs.SpeakerState.{in_force_of, tables_of};
-ghost use Rattle.speaker.specs.declared.config.Config.{Config};
+ghost use Rattle.routing.specs.Offers.{IsOffer};
+ghost use Rattle.routing.specs.Tables.{peer_route_at};
+ghost use Rattle.runs.specs.AdjRibIn.{route};
+ghost use Rattle.runs.specs.Agreement.{Agrees, tables_after};
+ghost use Rattle.runs.specs.Runs.{Run, configuration_of, history, payloads_after};
+ghost use Rattle.runs.specs.SpeakerState.{in_force_of, tables_of};
+ghost use Rattle.runs.specs.declared.config.Config.{Config};
 
 use crate::step::Speaker;
 use bgp_attr::Attrs;

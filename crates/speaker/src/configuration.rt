@@ -5,20 +5,20 @@ ghost use Rattle.bgp_conf.specs.FirstRefusal.{IsAccepted, first_refusal};
 ghost use Rattle.bgp_conf.specs.Configuration.{peer_at};
 ghost use Rattle.bgp_conf.specs.declared.command.Command.TheVariants.{AddPeer as AddsPeer, RemovePeer as RemovesPeer, Network as Originates, NoNetwork as Retracts};
 ghost use Rattle.bgp_fsm.specs.StateTests.{is_established};
-ghost use Rattle.speaker.specs.FirstRefusal.{closing_for};
-ghost use Rattle.speaker.specs.SpeakerState.{tables_of};
+ghost use Rattle.runs.specs.FirstRefusal.{closing_for};
+ghost use Rattle.runs.specs.SpeakerState.{tables_of};
 ghost use Rattle.bgp_fsm.specs.SessionTable.{effects_of};
 ghost use Rattle.bgp_fsm.specs.declared.input.Input.TheVariants.{Start};
 ghost use Rattle.speaker.specs.Chosen.{Chooses};
-ghost use Rattle.routes.specs.Linked.{Linked};
+ghost use Rattle.routing.specs.Linked.{Linked};
 ghost use Rattle.routes.specs.Commands.{DropsPolicy, SetsPolicy, UsesIn, UsesOut, resolves};
 ghost use Rattle.speaker.specs.Moves.{Forgets, Moves};
-ghost use Rattle.speaker.specs.Runs.{Run, turn, Command_call, opened_commanded};
-ghost use Rattle.speaker.specs.Agreement.{Holds};
-ghost use Rattle.speaker.specs.declared.config.Config.{Config as TheConfig};
-ghost use Rattle.routes.specs.Tables.{link_at};
+ghost use Rattle.runs.specs.Runs.{Run, turn, Command_call, opened_commanded};
+ghost use Rattle.runs.specs.Agreement.{Holds};
+ghost use Rattle.runs.specs.declared.config.Config.{Config as TheConfig};
+ghost use Rattle.routing.specs.Tables.{link_at};
 
-use crate::event::only;
+use runs::slot_bit;
 use crate::step::Speaker;
 use bgp_conf::{Command, PeerConf};
 use bgp_fsm::Input;
@@ -28,7 +28,7 @@ use net_prefix::Prefix;
 use std::alloc::{AllocError, Allocator};
 
 impl<A: Allocator + Clone, B: Book<A>> Speaker<A, B> {
-    ghost use Rattle.speaker.specs.SpeakerState.{IsAsBefore};
+    ghost use Rattle.runs.specs.SpeakerState.{IsAsBefore};
 
     // Makes the tables after a command that isn't refused. Answers the slots whose connection attempt begins, a bit each.
     pub(crate) fn obey(&mut self, command: &Command<'_>) -> Result<u64, AllocError>
@@ -201,7 +201,7 @@ impl<A: Allocator + Clone, B: Book<A>> Speaker<A, B> {
         ensures rises { self.old.chosen ≤ self.new.chosen }
     {
         if self.input(slot, Input::Start) {
-            return only(slot);
+            return slot_bit(slot);
         }
         0
     }

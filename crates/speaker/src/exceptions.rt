@@ -3,11 +3,11 @@ ghost use Rattle.std.specs.Prelude.{◌≡◌, ◌≤◌, ◌⊎◌, [], ◌∷�
 ghost use Rattle.bgp_conf.specs.ConfAfter.{TakesMemory};
 ghost use Rattle.bgp_conf.specs.FirstRefusal.{first_refusal};
 ghost use Rattle.bgp_conf.specs.declared.command.Command.TheVariants.{Filter as AddsFilter, NoFilter as DropsFilter, Assert as Asserts, NoAssert as DropsAssertion};
-ghost use Rattle.speaker.specs.Agreement.{Holds};
-ghost use Rattle.speaker.specs.FirstRefusal.{closing_for};
-ghost use Rattle.speaker.specs.Runs.{Run, turn, Command_call, opened_commanded};
-ghost use Rattle.speaker.specs.SpeakerState.{payloads_in, tables_of};
-ghost use Rattle.speaker.specs.declared.config.Config.{Config as TheConfig};
+ghost use Rattle.runs.specs.Agreement.{Holds};
+ghost use Rattle.runs.specs.FirstRefusal.{closing_for};
+ghost use Rattle.runs.specs.Runs.{Run, turn, Command_call, opened_commanded};
+ghost use Rattle.runs.specs.SpeakerState.{payloads_in, tables_of};
+ghost use Rattle.runs.specs.declared.config.Config.{Config as TheConfig};
 
 use crate::step::Speaker;
 use bgp_conf::Command;
@@ -19,7 +19,7 @@ use std::alloc::{AllocError, Allocator};
 use std::collections::BTreeSet;
 
 impl<A: Allocator + Clone, B: Book<A>> Speaker<A, B> {
-    ghost use Rattle.speaker.specs.SpeakerState.{IsAsBefore};
+    ghost use Rattle.runs.specs.SpeakerState.{IsAsBefore};
 
     // A filter comes or goes. Where memory is refused, it stays as it was.
     pub(crate) fn turn_filter(

@@ -7,19 +7,19 @@ ghost use Rattle.export_rules.specs.Export.{local_pref_of};
 ghost use Rattle.export_rules.specs.declared.export.ExportPeer.{ExportPeer};
 ghost use Rattle.net_prefix.specs.declared.prefix.Prefix.{Prefix};
 ghost use Rattle.rib_out.specs.Slots.{has_slot};
-ghost use Rattle.speaker.specs.Agreement.{Agrees, AreOwed};
-ghost use Rattle.routes.specs.Candidates.{IsPeerCandidate, seen_of};
-ghost use Rattle.speaker.specs.Concerned.{is_call_for};
-ghost use Rattle.routes.specs.Export.{IsExport, SetsDegree};
-ghost use Rattle.speaker.specs.FirstRefusal.{refusal_in, refusal_of, take_refusal_in, take_refusal_of};
-ghost use Rattle.routes.specs.LocRib.{AreBest, IsBest};
-ghost use Rattle.speaker.specs.Queueing.{Queue, Starves};
-ghost use Rattle.speaker.specs.Runs.{Call, Run, history, moment_after, report_of, turn};
-ghost use Rattle.speaker.specs.SpeakerState.{SpeakerState};
-ghost use Rattle.routes.specs.Tables.{Tables};
-ghost use Rattle.speaker.specs.declared.config.Config.{Config};
-ghost use Rattle.speaker.specs.declared.event.Event.{Event};
-ghost use Rattle.speaker.specs.declared.event.TheConstants.Report.{NOTHING};
+ghost use Rattle.runs.specs.Agreement.{Agrees, AreOwed};
+ghost use Rattle.routing.specs.Candidates.{IsPeerCandidate, seen_of};
+ghost use Rattle.runs.specs.Concerned.{is_call_for};
+ghost use Rattle.routing.specs.Export.{IsExport, SetsDegree};
+ghost use Rattle.runs.specs.FirstRefusal.{refusal_in, refusal_of, take_refusal_in, take_refusal_of};
+ghost use Rattle.routing.specs.LocRib.{AreBest, IsBest};
+ghost use Rattle.runs.specs.Queueing.{Queue, Starves};
+ghost use Rattle.runs.specs.Runs.{Call, Run, history, moment_after, report_of, turn};
+ghost use Rattle.runs.specs.SpeakerState.{SpeakerState};
+ghost use Rattle.routing.specs.Tables.{Tables};
+ghost use Rattle.runs.specs.declared.config.Config.{Config};
+ghost use Rattle.runs.specs.declared.event.Event.{Event};
+ghost use Rattle.runs.specs.declared.event.TheConstants.Report.{NOTHING};
 
 /// A prefix has at most one best route, so that there is one Loc-RIB, and at most one export to a peer.
 pub fn one_export()

@@ -27,26 +27,22 @@
 
 mod asked;
 mod cache_session;
-mod config;
 mod configuration;
-mod event;
 mod exceptions;
 mod laws;
 mod payloads;
 mod queue;
-mod runs;
 mod sessions;
 mod step;
 mod timers;
+mod trace;
 mod views;
 mod views_after;
 
 pub use bgp_attr::{Attrs, Mode};
 pub use bgp_conf::{Action, Command, Condition, PeerConf, PrefixRange, Refusal, Rule};
 pub use bgp_fsm::{PeerTimers, State};
-pub use config::{CACHE_RETRY_SECONDS, Config, SlotTimers};
 pub use decision::LOCAL_SLOT;
-pub use event::{Event, Report};
 pub use laws::{
     degrees_are_told, each_slot_starves_once, moments_are_of_the_run, nothing_is_reported,
     one_export, other_sessions_stay, refusals_are_of_the_run,
@@ -54,8 +50,10 @@ pub use laws::{
 pub use net_prefix::Transport;
 pub use origin_valid::Validity;
 pub use payloads::Payloads;
-pub use routes::{WaitingAfter, WaitingPrefixes};
+pub use routes::WaitingAfter;
+pub use routing::WaitingPrefixes;
 pub use rtr_client::ClientState;
-pub use runs::{Trace, run};
+pub use runs::{CACHE_RETRY_SECONDS, Config, Event, Report, SlotTimers};
 pub use step::Speaker;
+pub use trace::{Trace, run};
 pub use views::{AdjRibIn, BestRoute, HeldRoutes, LocRib};

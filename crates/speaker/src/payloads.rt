@@ -5,7 +5,7 @@ ghost use Rattle.local_exceptions.specs.ExceptionSets.{under};
 ghost use Rattle.local_exceptions.specs.Filters.{is_filtered};
 ghost use Rattle.net_prefix.specs.PayloadSets.{IsPayloadSet};
 ghost use Rattle.speaker.specs.Shown.{first_of, keys_if, least_of, payloads_behind};
-ghost use Rattle.speaker.specs.SpeakerState.{in_force_of};
+ghost use Rattle.runs.specs.SpeakerState.{in_force_of};
 
 use crate::step::Speaker;
 use decision::Book;

@@ -7,25 +7,26 @@ ghost use Rattle.bgp_conf.specs.Configuration.{peer_at};
 ghost use Rattle.bgp_fsm.specs.declared.state.State.TheVariants.{Established};
 ghost use Rattle.export_rules.specs.Export.{most_attributes};
 ghost use Rattle.rib_out.specs.Held.{asked_at, held_at, is_among};
-ghost use Rattle.speaker.specs.Agreement.{QueuesAll, QueuesOn, QueuesStarved};
-ghost use Rattle.routes.specs.Export.{export_peer_of};
+ghost use Rattle.runs.specs.Agreement.{QueuesAll, QueuesOn, QueuesStarved};
+ghost use Rattle.routing.specs.Export.{export_peer_of};
 ghost use Rattle.speaker.specs.Export.{export_to};
-ghost use Rattle.routes.specs.Linked.{Linked};
+ghost use Rattle.routing.specs.Linked.{Linked};
 ghost use Rattle.speaker.specs.Serving.{AreServedBelow, IsServedBy, IsServedAt, IsShortAt, IsUpAt, HasRoomAt, IsOfSlot, IsStill, IsToldAt, Serves, Stand, IsDoneAt, IsGone, IsHad, is_standing};
-ghost use Rattle.routes.specs.Packing.{IsDue, IsFrom, IsNewTo, IsPack, most_named};
+ghost use Rattle.routing.specs.Packing.{IsDue, IsFrom, IsNewTo, IsPack, most_named};
 ghost use Rattle.net_prefix.specs.declared.prefix.Prefix.{Prefix as ThePrefix};
-ghost use Rattle.routes.specs.Owing.{IsNext, announced_of, withdrawn_of};
-ghost use Rattle.routes.specs.Told.{HasRoom};
-ghost use Rattle.routes.specs.Tables.{link_at};
+ghost use Rattle.routing.specs.Owing.{IsNext, announced_of, withdrawn_of};
+ghost use Rattle.routing.specs.Told.{HasRoom};
+ghost use Rattle.routing.specs.Tables.{link_at};
 
-use crate::event::only;
+use runs::slot_bit;
 use crate::step::Speaker;
 use bgp_fsm::Input;
 use bgp_peer::ROOM_FOR_UPDATE;
 use decision::Book;
 use export_rules::ExportPeer;
 use net_prefix::Prefix;
-use routes::{Draft, Octets, place};
+use routes::Draft;
+use routing::{Octets, place};
 use std::alloc::{AllocError, Allocator};
 
 impl<A: Allocator + Clone, B: Book<A>> Speaker<A, B> {
@@ -43,7 +44,7 @@ impl<A: Allocator + Clone, B: Book<A>> Speaker<A, B> {
         let mut draft = Draft::new();
         while let Some(slot) = self.pass(&mut octets, &mut draft) {
             self.starve(slot);
-            starved = only(slot) | starved;
+            starved = slot_bit(slot) | starved;
         }
         starved
     }

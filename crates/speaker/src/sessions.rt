@@ -6,17 +6,17 @@ ghost use Rattle.bgp_conf.specs.declared.conf.ConfiguredPeer.{ConfiguredPeer as 
 ghost use Rattle.bgp_fsm.specs.SessionTable.{effects_of};
 ghost use Rattle.bgp_fsm.specs.declared.input.Input.TheVariants.{NoMemory};
 ghost use Rattle.bgp_msg.specs.MessageStream.{meaning};
-ghost use Rattle.routes.specs.Chosen.{Ends};
+ghost use Rattle.routing.specs.Chosen.{Ends};
 ghost use Rattle.speaker.specs.Chosen.{Chooses};
-ghost use Rattle.routes.specs.Heard.{TakesMemoryAt};
+ghost use Rattle.routing.specs.Heard.{TakesMemoryAt};
 ghost use Rattle.speaker.specs.Moves.{Moves, Pushes, TakesItem, IsWithout};
-ghost use Rattle.routes.specs.Linked.{taken_of, Linked};
+ghost use Rattle.routing.specs.Linked.{taken_of, Linked};
 ghost use Rattle.bgp_peer.specs.SessionInputs.{kind_of};
-ghost use Rattle.speaker.specs.Runs.{terms_in, Run, Fail_call, turn};
-ghost use Rattle.speaker.specs.Agreement.{Hears, HearsUntil, Holds};
-ghost use Rattle.routes.specs.Tables.{link_at, session_at};
-ghost use Rattle.speaker.specs.FirstRefusal.{closes};
-ghost use Rattle.speaker.specs.declared.config.Config.{Config as TheConfig};
+ghost use Rattle.runs.specs.Runs.{terms_in, Run, Fail_call, turn};
+ghost use Rattle.runs.specs.Agreement.{Hears, HearsUntil, Holds};
+ghost use Rattle.routing.specs.Tables.{link_at, session_at};
+ghost use Rattle.runs.specs.FirstRefusal.{closes};
+ghost use Rattle.runs.specs.declared.config.Config.{Config as TheConfig};
 
 use crate::step::Speaker;
 use arrayvec::ArrayVec;
@@ -24,7 +24,7 @@ use bgp_attr::PeerKind;
 use bgp_fsm::Input;
 use bgp_msg::Expected;
 use decision::Book;
-use routes::{Octets, Standard};
+use routing::{Octets, Standard};
 use std::alloc::{AllocError, Allocator};
 
 impl<A: Allocator + Clone, B: Book<A>> Speaker<A, B> {

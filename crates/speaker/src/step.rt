@@ -3,17 +3,17 @@ ghost use Rattle.std.specs.Prelude.{◌≡◌, ◌≤◌, ◌<◌, ◌⊎◌, �
 ghost use Rattle.std.specs.Option.{option_map};
 ghost use Rattle.bgp_fsm.specs.Transports.{transport_of};
 ghost use Rattle.speaker.specs.Moves.{Hands};
-ghost use Rattle.speaker.specs.Runs.{Call, Run, Turn, turn, asked, call_of, report_of, Take_call};
-ghost use Rattle.speaker.specs.Agreement.{Agrees, Holds, IsFair, IsThrifty};
-ghost use Rattle.speaker.specs.declared.config.Config.{Config as TheConfig};
-ghost use Rattle.speaker.specs.FirstRefusal.{closes, closing_for, is_open};
-ghost use Rattle.routes.specs.Tables.{configured_session, link_at, session_at};
-ghost use Rattle.routes.specs.Linked.{Linked};
-ghost use Rattle.speaker.specs.Queueing.{Queue, starved_in};
+ghost use Rattle.runs.specs.Runs.{Call, Run, Turn, turn, asked, call_of, report_of, Take_call};
+ghost use Rattle.runs.specs.Agreement.{Agrees, Holds, IsFair, IsThrifty};
+ghost use Rattle.runs.specs.declared.config.Config.{Config as TheConfig};
+ghost use Rattle.runs.specs.FirstRefusal.{closes, closing_for, is_open};
+ghost use Rattle.routing.specs.Tables.{configured_session, link_at, session_at};
+ghost use Rattle.routing.specs.Linked.{Linked};
+ghost use Rattle.runs.specs.Queueing.{Queue, starved_in};
 
 use crate::cache_session::session_for;
-use crate::config::Config;
-use crate::event::{Event, Report, only};
+use runs::Config;
+use runs::{Event, Report, slot_bit};
 use bgp_conf::{Command, PEER_SLOTS, Refusal};
 use bgp_fsm::Input;
 use decision::Book;
@@ -40,7 +40,7 @@ pub struct Speaker<A: Allocator + Clone = Global, B: Book<A> = LiveBook<A>> {
 impl<A: Allocator + Clone, B: Book<A>> Model for Speaker<A, B> {
     ghost use Rattle.decision.specs.BookContents.{rows_of};
     ghost use Rattle.std.specs.Prelude.{◌≡◌};
-    ghost use Rattle.speaker.specs.SpeakerState.{SpeakerState, payloads_in};
+    ghost use Rattle.runs.specs.SpeakerState.{SpeakerState, payloads_in};
 
     ghost Value = { SpeakerState };
 
@@ -63,7 +63,7 @@ impl<A: Allocator + Clone, B: Book<A>> Model for Speaker<A, B> {
 }
 
 impl<A: Allocator + Clone + Copy, B: Book<A>> Speaker<A, B> {
-    ghost use Rattle.speaker.specs.SpeakerState.{started, is_out_of_range};
+    ghost use Rattle.runs.specs.SpeakerState.{started, is_out_of_range};
 
     /// A speaker without peers, whose cache session, where one is asked for, has begun its first connection attempt. Refused by
     /// 33 where the AS, the identifier or a timer of a peer is 0 or `cache_retry` isn't from 1 to 7,200, and by 44.
@@ -104,8 +104,8 @@ impl<A: Allocator + Clone + Copy, B: Book<A>> Speaker<A, B> {
 }
 
 impl<A: Allocator + Clone, B: Book<A>> Speaker<A, B> {
-    ghost use Rattle.speaker.specs.SpeakerState.{tables_of};
-    ghost use Rattle.speaker.specs.FirstRefusal.{cache_transport_of, refusal_of, take_refusal_of, LacksMemory};
+    ghost use Rattle.runs.specs.SpeakerState.{tables_of};
+    ghost use Rattle.runs.specs.FirstRefusal.{cache_transport_of, refusal_of, take_refusal_of, LacksMemory};
 
     /// One event. A refusal leaves the speaker as it was. Where memory is refused to what a session needs, that
     /// session is closed, its routes go, and the report names its slot.
@@ -154,7 +154,7 @@ impl<A: Allocator + Clone, B: Book<A>> Speaker<A, B> {
                 // What comes to a connection that is still to be closed is dropped.
                 if self.is_open(slot) {
                     if self.hear(slot, octets).is_err() {
-                        report.starved = only(slot);
+                        report.starved = slot_bit(slot);
                     }
                 }
             }
@@ -289,7 +289,7 @@ impl<A: Allocator + Clone, B: Book<A>> Speaker<A, B> {
         ensures { result ≡ closing_for (tables_of self.now) command.now }
     {
         match *command {
-            Command::AddPeer(slot, _) if slot < PEER_SLOTS && self.is_closing(slot) => only(slot),
+            Command::AddPeer(slot, _) if slot < PEER_SLOTS && self.is_closing(slot) => slot_bit(slot),
             _ => 0,
         }
     }

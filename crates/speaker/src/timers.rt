@@ -1,11 +1,11 @@
 //! A moment comes: the timers of each slot that have ended.
 ghost use Rattle.std.specs.Prelude.{◌≡◌, ◌≤◌, [], ◌∷◌};
 ghost use Rattle.bgp_peer.specs.SessionInputs.{timers};
-ghost use Rattle.speaker.specs.Agreement.{EndsAll, EndsTimers, Holds};
-ghost use Rattle.speaker.specs.Runs.{Run, Tick_call, report_of, turn};
-ghost use Rattle.speaker.specs.declared.config.Config.{Config as TheConfig};
+ghost use Rattle.runs.specs.Agreement.{EndsAll, EndsTimers, Holds};
+ghost use Rattle.runs.specs.Runs.{Run, Tick_call, report_of, turn};
+ghost use Rattle.runs.specs.declared.config.Config.{Config as TheConfig};
 
-use crate::event::{Report, only};
+use runs::{Report, slot_bit};
 use crate::step::Speaker;
 use bgp_conf::PEER_SLOTS;
 use bgp_fsm::{Input, Timer};
@@ -36,7 +36,7 @@ impl<A: Allocator + Clone, B: Book<A>> Speaker<A, B> {
         let mut opened = 0;
         for slot in 0..PEER_SLOTS {
             if self.end_timers(slot) {
-                opened = only(slot) | opened;
+                opened = slot_bit(slot) | opened;
             }
         }
         opened

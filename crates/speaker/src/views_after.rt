@@ -5,11 +5,11 @@ ghost use Rattle.std.specs.Map.{keys_of};
 ghost use Rattle.net_prefix.specs.PayloadSets.{IsPayloadSet};
 ghost use Rattle.net_prefix.specs.PrefixOrder.{prefix_cmp};
 ghost use Rattle.prefix_trie.specs.TrieWalks.{all_after};
-ghost use Rattle.routes.specs.Tables.{link_at};
+ghost use Rattle.routing.specs.Tables.{link_at};
 ghost use Rattle.rib_out.specs.PrefixRows.{prefixes_after};
 ghost use Rattle.speaker.specs.Shown.{held_by, payloads_behind, received_by};
-ghost use Rattle.speaker.specs.SpeakerState.{in_force_of};
-ghost use Rattle.speaker.specs.Waiting.{waiting_of};
+ghost use Rattle.runs.specs.SpeakerState.{in_force_of};
+ghost use Rattle.runs.specs.Waiting.{waiting_of};
 
 use crate::payloads::Payloads;
 use crate::step::Speaker;

@@ -13,7 +13,7 @@ use Rattle.command_lines.specs.Words.{words_in}
 use Rattle.control_lines.specs.declared.talk.Wish.{Wish}
 use Rattle.control_lines.specs.declared.talk.Wish.TheVariants.{Nothing, Answer, More}
 use Rattle.speaker.specs.Shown.{cache_state_of}
-use Rattle.speaker.specs.declared.event.Report.{Report}
+use Rattle.runs.specs.declared.event.Report.{Report}
 use Rattle.rtr_client.specs.declared.state.ClientState.{ClientState}
 use Rattle.wires.specs.declared.fault.LoopFault.TheVariants.{Accept}
 use Rattle.speaker_turns.specs.Obeying.{Obeys}

@@ -3,7 +3,7 @@ use Rattle.std.proofs.Common.{◌≡◌, ◌∙◌, List, [], ◌∷◌, Result,
 use Rattle.bgp_conf.specs.declared.command.Command.{Command}
 use Rattle.bgp_conf.specs.declared.command.Command.TheVariants.{Enable}
 use Rattle.bgp_conf.specs.declared.refusal.Refusal.{Refusal}
-use Rattle.speaker.specs.declared.event.Report.{Report}
+use Rattle.runs.specs.declared.event.Report.{Report}
 use Rattle.wires.specs.Counts.{Counts}
 use Rattle.wires.specs.declared.fault.LoopFault.TheVariants.{Accept}
 use Rattle.speaker_turns.specs.Obeying.{Obeys}

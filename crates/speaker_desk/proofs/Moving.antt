@@ -5,14 +5,14 @@ use Rattle.std.specs.declared.net.socket_addr.SocketAddr.{SocketAddr}
 use Rattle.bgp_conf.specs.declared.command.Command.{Command}
 use Rattle.bgp_conf.specs.declared.command.Command.TheVariants.{Enable}
 use Rattle.bgp_conf.specs.declared.refusal.Refusal.{Refusal}
-use Rattle.speaker.specs.Agreement.{Agrees}
+use Rattle.runs.specs.Agreement.{Agrees}
 use Rattle.bgp_conf.specs.declared.refusal.Refusal.TheVariants.{NoMemory}
-use Rattle.speaker.specs.FirstRefusal.{LacksMemory, refusal_of}
-use Rattle.speaker.specs.Runs.{Call, Command_call, Run}
-use Rattle.speaker.specs.SpeakerState.{SpeakerState}
-use Rattle.speaker.specs.declared.config.Config.{Config}
-use Rattle.speaker.specs.declared.event.Event.TheVariants.{Command as Commanded}
-use Rattle.speaker.specs.declared.event.Report.{Report}
+use Rattle.runs.specs.FirstRefusal.{LacksMemory, refusal_of}
+use Rattle.runs.specs.Runs.{Call, Command_call, Run}
+use Rattle.runs.specs.SpeakerState.{SpeakerState}
+use Rattle.runs.specs.declared.config.Config.{Config}
+use Rattle.runs.specs.declared.event.Event.TheVariants.{Command as Commanded}
+use Rattle.runs.specs.declared.event.Report.{Report}
 use Rattle.scenario.proofs.ObeyedCommands.{takes_nothing}
 use Rattle.wires.specs.declared.fault.LoopFault.TheVariants.{Accept}
 use Rattle.wires.proofs.Sockets.{IsIdle}

@@ -10,7 +10,7 @@ use Rattle.bgp_conf.specs.declared.command.Command.TheVariants.{AddPeer, RemoveP
 use Rattle.bgp_conf.specs.declared.refusal.Refusal.{Refusal}
 use Rattle.command_lines.specs.CommandWords.{Says}
 use Rattle.command_lines.specs.Words.{words_in}
-use Rattle.speaker.specs.declared.event.Report.{Report}
+use Rattle.runs.specs.declared.event.Report.{Report}
 use Rattle.speaker_turns.specs.Obeying.{Obeys}
 use Rattle.speaker_turns.specs.Turns.{Turns, with_remote}
 use Rattle.speaker_turns.specs.declared.end.End.TheVariants.{Peer}

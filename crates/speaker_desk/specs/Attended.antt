@@ -6,7 +6,7 @@ use Rattle.clocks.specs.Moments.{NeverGoBack, told_behind}
 use Rattle.control_lines.specs.declared.talk.Wish.{Wish}
 use Rattle.control_lines.specs.declared.talk.Wish.TheVariants.{Nothing, Answer, More}
 use Rattle.speaker.specs.Shown.{cache_state_of}
-use Rattle.speaker.specs.declared.event.Report.{Report}
+use Rattle.runs.specs.declared.event.Report.{Report}
 use Rattle.wires.specs.declared.fault.LoopFault.TheVariants.{Accept}
 use Rattle.speaker_turns.specs.Obeying.{Obeys}
 use Rattle.speaker_turns.specs.Sessions.{transport_of}

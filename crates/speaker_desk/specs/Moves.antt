@@ -7,8 +7,8 @@ use Rattle.bgp_conf.specs.declared.refusal.Refusal.{Refusal}
 use Rattle.clocks.specs.Moments.{NeverGoBack, told_behind}
 use Rattle.command_lines.specs.CommandWords.{Says}
 use Rattle.command_lines.specs.Words.{words_in}
-use Rattle.speaker.specs.Runs.{Command_call, Run, Turn, asked}
-use Rattle.speaker.specs.declared.event.Report.{Report}
+use Rattle.runs.specs.Runs.{Command_call, Run, Turn, asked}
+use Rattle.runs.specs.declared.event.Report.{Report}
 use Rattle.wires.specs.declared.fault.LoopFault.TheVariants.{Accept}
 use Rattle.speaker_turns.specs.Obeying.{Obeys}
 use Rattle.speaker_turns.specs.Turns.{TakesTurn, Turns, with_remote}

@@ -10,7 +10,7 @@ use Rattle.command_lines.specs.Words.{words_in}
 use Rattle.control_lines.specs.declared.talk.Wish.{Wish}
 use Rattle.control_lines.specs.declared.talk.Wish.TheVariants.{Answer}
 use Rattle.speaker.specs.Shown.{cache_state_of}
-use Rattle.speaker.specs.declared.event.Report.{Report}
+use Rattle.runs.specs.declared.event.Report.{Report}
 use Rattle.speaker_turns.specs.Obeying.{Obeys}
 use Rattle.speaker_turns.specs.Turns.{Turns}
 use Rattle.speaker_desk.specs.Answering.{IsTextOf}

@@ -1,8 +1,8 @@
 //! What follows of turns with operators between them.
 ghost use Rattle.std.specs.Prelude.{◌≡◌, ◌<◌, ◌+◌, ◌-◌, ◌^◌, ◌++◌, ℕ, Contains, List, None, Ok, Result, Some, length, true};
-ghost use Rattle.speaker.specs.Agreement.{Agrees};
-ghost use Rattle.speaker.specs.Runs.{Run};
-ghost use Rattle.speaker.specs.declared.config.Config.{Config};
+ghost use Rattle.runs.specs.Agreement.{Agrees};
+ghost use Rattle.runs.specs.Runs.{Run};
+ghost use Rattle.runs.specs.declared.config.Config.{Config};
 ghost use Rattle.speaker_turns.specs.Carrying.{CarriesOwn, IsFresh};
 ghost use Rattle.speaker_turns.specs.Ends.{place_count};
 ghost use Rattle.speaker_turns.specs.Serving.{Connection};

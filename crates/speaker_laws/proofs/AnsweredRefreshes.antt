@@ -17,17 +17,17 @@ use Rattle.bgp_peer.specs.SessionInputs.{Event, Configured, Signalled, Octet, Qu
 use Rattle.net_prefix.specs.declared.prefix.Prefix.{Prefix}
 use Rattle.rib_out.proofs.HeldTables.{held_if_asked}
 use Rattle.bgp_attr.specs.PathAttributes.{PathAttributes}
-use Rattle.routes.specs.Linked.{Linked}
-use Rattle.routes.specs.Tables.{link_at}
-use Rattle.routes.specs.Updates.{is_among}
-use Rattle.speaker.proofs.Refreshing.{asked_stays, item_asks, not_asked}
-use Rattle.speaker.proofs.SlotStates.{vacant_from}
-use Rattle.speaker.specs.Agreement.{Agrees, IsOwedIn, Names, SlotAgrees}
-use Rattle.speaker.specs.Held.{held, told, told_by, told_from, told_in}
-use Rattle.speaker.specs.Refreshes.{answers, asked, named, named_by, names_in}
-use Rattle.speaker.specs.Runs.{Run, history}
-use Rattle.speaker.specs.SpeakerState.{SpeakerState}
-use Rattle.speaker.specs.declared.config.Config.{Config}
+use Rattle.routing.specs.Linked.{Linked}
+use Rattle.routing.specs.Tables.{link_at}
+use Rattle.routing.specs.Updates.{is_among}
+use Rattle.runs.proofs.Refreshing.{asked_stays, item_asks, not_asked}
+use Rattle.runs.proofs.SlotStates.{vacant_from}
+use Rattle.runs.specs.Agreement.{Agrees, IsOwedIn, Names, SlotAgrees}
+use Rattle.runs.specs.Held.{held, told, told_by, told_from, told_in}
+use Rattle.runs.specs.Refreshes.{answers, asked, named, named_by, names_in}
+use Rattle.runs.specs.Runs.{Run, history}
+use Rattle.runs.specs.SpeakerState.{SpeakerState}
+use Rattle.runs.specs.declared.config.Config.{Config}
 
 -- a ROUTE-REFRESH leaves the session Established
 refreshed_stays : (now : ℕ) (input : Input) (s : Session) → (effects_of input s).refreshed ≡ true → is_established (session_after now input s).state ≡ true

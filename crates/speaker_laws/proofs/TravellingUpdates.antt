@@ -34,18 +34,18 @@ use Rattle.export_rules.specs.declared.export.ExportPeer.{ExportPeer}
 use Rattle.export_rules.proofs.Travelling.{export_travels}
 use Rattle.net_prefix.specs.declared.prefix.Prefix.{Prefix}
 use Rattle.bgp_conf.specs.PeerPolicies.{export_action}
-use Rattle.routes.specs.Heard.{update_heard}
-use Rattle.speaker.specs.AdjRibIn.{brought, route}
-use Rattle.routes.specs.Updates.{is_among, sound_update, word_if}
-use Rattle.speaker.specs.Agreement.{Agrees, AreOwed, IsOwed, IsOwedIn, IsThrifty, Names, route_under, tables_after}
-use Rattle.routes.specs.Export.{IsExport, export_peer_of, selected_of}
-use Rattle.speaker.specs.Held.{held, told_by, told_from, told_in}
-use Rattle.speaker.specs.Queueing.{Queue, Service, Starves, Tells}
-use Rattle.speaker.specs.Runs.{Call, Run, Up_call, Fail_call, Bytes_call, Starved_call, Tick_call, Command_call, Take_call, Cache_up_call, Cache_fail_call, Cache_bytes_call, Cache_starved_call, Cache_take_call, called, commanded, configuration_of, history, queued_on, served_by, turn}
-use Rattle.speaker.specs.SpeakerState.{SpeakerState}
-use Rattle.routes.specs.Tables.{network_route}
-use Rattle.speaker.specs.declared.config.Config.{Config}
-use Rattle.speaker.proofs.SentPrefixes.{said_tells_nothing, told_in-append, told_in-nil}
+use Rattle.routing.specs.Heard.{update_heard}
+use Rattle.runs.specs.AdjRibIn.{brought, route}
+use Rattle.routing.specs.Updates.{is_among, sound_update, word_if}
+use Rattle.runs.specs.Agreement.{Agrees, AreOwed, IsOwed, IsOwedIn, IsThrifty, Names, route_under, tables_after}
+use Rattle.routing.specs.Export.{IsExport, export_peer_of, selected_of}
+use Rattle.runs.specs.Held.{held, told_by, told_from, told_in}
+use Rattle.runs.specs.Queueing.{Queue, Service, Starves, Tells}
+use Rattle.runs.specs.Runs.{Call, Run, Up_call, Fail_call, Bytes_call, Starved_call, Tick_call, Command_call, Take_call, Cache_up_call, Cache_fail_call, Cache_bytes_call, Cache_starved_call, Cache_take_call, called, commanded, configuration_of, history, queued_on, served_by, turn}
+use Rattle.runs.specs.SpeakerState.{SpeakerState}
+use Rattle.routing.specs.Tables.{network_route}
+use Rattle.runs.specs.declared.config.Config.{Config}
+use Rattle.runs.proofs.SentPrefixes.{said_tells_nothing, told_in-append, told_in-nil}
 
 -- ---- the routes that peers announce
 

@@ -16,13 +16,13 @@ ghost use Rattle.bgp_peer.specs.Refreshes.{refreshes};
 ghost use Rattle.bgp_peer.specs.SessionInputs.{Event, Queued, session};
 ghost use Rattle.export_rules.specs.declared.export.ExportPeer.{ExportPeer};
 ghost use Rattle.net_prefix.specs.declared.prefix.Prefix.{Prefix};
-ghost use Rattle.speaker.specs.Agreement.{Agrees, IsOwedIn, Names, tables_after};
-ghost use Rattle.routes.specs.Export.{IsExport};
-ghost use Rattle.speaker.specs.Held.{held, told_from, told_in};
-ghost use Rattle.speaker.specs.Refreshes.{asked, names_in};
-ghost use Rattle.speaker.specs.Runs.{Run, history};
-ghost use Rattle.speaker.specs.SpeakerState.{SpeakerState};
-ghost use Rattle.speaker.specs.declared.config.Config.{Config};
+ghost use Rattle.runs.specs.Agreement.{Agrees, IsOwedIn, Names, tables_after};
+ghost use Rattle.routing.specs.Export.{IsExport};
+ghost use Rattle.runs.specs.Held.{held, told_from, told_in};
+ghost use Rattle.runs.specs.Refreshes.{asked, names_in};
+ghost use Rattle.runs.specs.Runs.{Run, history};
+ghost use Rattle.runs.specs.SpeakerState.{SpeakerState};
+ghost use Rattle.runs.specs.declared.config.Config.{Config};
 
 /// Whatever peers send, what goes on to a peer are attributes that may: none of a code that ends at a speaker as this one, and
 /// none of a code with lengths of its own standard but with one of these. So it is of what is exported of a best route, of what

@@ -2,7 +2,7 @@
 use Rattle.std.proofs.Common.{◌≡◌, ◌++◌, ◌+◌, ℕ, zero, suc, Bool, true, false, List, [], ◌∷◌, Result, Ok, inr, codes, refl, subst, arith}
 use Rattle.bgp_conf.specs.declared.command.Command.TheVariants.{Disable}
 use Rattle.bgp_conf.specs.declared.refusal.Refusal.{Refusal}
-use Rattle.speaker.specs.declared.event.Report.{Report}
+use Rattle.runs.specs.declared.event.Report.{Report}
 use Rattle.speaker_desk.specs.Moves.{TakesMoves}
 use Rattle.speaker_desk.specs.Moves.Move.{Obeyed}
 use Rattle.speaker_turns.specs.Obeying.{Obeys}

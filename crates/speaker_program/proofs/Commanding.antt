@@ -7,9 +7,9 @@ use Rattle.scenario.specs.FileLines.{lines}
 use Rattle.scenario.specs.ObeyedCommands.{Obeys, ObeysBefore}
 use Rattle.scenario.specs.declared.commands.CommandsFault.{CommandsFault}
 use Rattle.scenario.specs.declared.commands.CommandsFault.TheVariants.{BadLine, Refused, Device, NoMemory}
-use Rattle.speaker.specs.Agreement.{Agrees}
-use Rattle.speaker.specs.SpeakerState.{SpeakerState}
-use Rattle.speaker.specs.declared.config.Config.{Config}
+use Rattle.runs.specs.Agreement.{Agrees}
+use Rattle.runs.specs.SpeakerState.{SpeakerState}
+use Rattle.runs.specs.declared.config.Config.{Config}
 use Rattle.speaker_program.specs.Commanded.{IsCommanded, IsCommandedBy, ObeysText}
 use Rattle.speaker_program.specs.Endings.{IsUnread}
 use Rattle.speaker_program.specs.declared.fault.SpeakerFault.{SpeakerFault}

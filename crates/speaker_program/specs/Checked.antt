@@ -2,7 +2,7 @@
 use Rattle.std.specs.Prelude.{ℕ, List, Option, string_bytes, ⊤}
 use Rattle.program_endings.specs.declared.aside.Aside.{Aside}
 use Rattle.program_endings.specs.declared.aside.Aside.TheVariants.{Help, Version, Check}
-use Rattle.speaker.specs.SpeakerState.{SpeakerState}
+use Rattle.runs.specs.SpeakerState.{SpeakerState}
 use Rattle.speaker_program.specs.Commanded.{IsCommanded}
 use Rattle.speaker_program.specs.Files.{AreOctetsAt, AreSettingsOf, IsTextAt}
 use Rattle.speaker_program.specs.Slots.{HasJust}

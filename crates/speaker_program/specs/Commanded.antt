@@ -6,10 +6,10 @@ use Rattle.scenario.specs.ObeyedCommands.{AreCommandsOf, Obeys, ObeysBefore}
 use Rattle.scenario.specs.declared.commands.CommandsFault.{CommandsFault}
 use Rattle.speaker_program.specs.Endings.{IsOfCommands}
 use Rattle.speaker_program.specs.declared.fault.SpeakerFault.{SpeakerFault}
-use Rattle.speaker.specs.Agreement.{Agrees}
-use Rattle.speaker.specs.Runs.{Run}
-use Rattle.speaker.specs.SpeakerState.{SpeakerState}
-use Rattle.speaker.specs.declared.config.Config.{Config}
+use Rattle.runs.specs.Agreement.{Agrees}
+use Rattle.runs.specs.Runs.{Run}
+use Rattle.runs.specs.SpeakerState.{SpeakerState}
+use Rattle.runs.specs.declared.config.Config.{Config}
 use Rattle.speaker_turns.specs.Turns.{TakesTurn, Turns}
 use Rattle.wires.specs.declared.fault.LoopFault.TheVariants.{Accept}
 

@@ -5,9 +5,9 @@ use Rattle.bgp_conf.specs.declared.command.Command.TheVariants.{Disable}
 use Rattle.bgp_conf.specs.declared.refusal.Refusal.{Refusal}
 use Rattle.bgp_fsm.specs.declared.state.State.{State}
 use Rattle.bgp_fsm.specs.declared.state.State.TheVariants.{Idle, Connect, Active, OpenSent, OpenConfirm, Established}
-use Rattle.routes.specs.Tables.{configured_session}
-use Rattle.speaker.specs.SpeakerState.{SpeakerState, tables_of}
-use Rattle.speaker.specs.declared.event.Report.{Report}
+use Rattle.routing.specs.Tables.{configured_session}
+use Rattle.runs.specs.SpeakerState.{SpeakerState, tables_of}
+use Rattle.runs.specs.declared.event.Report.{Report}
 use Rattle.speaker_turns.specs.Obeying.{Obeys}
 use Rattle.speaker_turns.specs.Turns.{Turns}
 use Rattle.speaker_settings.specs.declared.settings.SpeakerSettings.{SpeakerSettings}

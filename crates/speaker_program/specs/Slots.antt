@@ -1,8 +1,8 @@
 -- The slots of a speaker that settings name.
 use Rattle.std.specs.Prelude.{◌≡◌, ◌<◌, ℕ, Bool, List, is_some}
 use Rattle.std.specs.declared.net.socket_addr.SocketAddr.{SocketAddr as Address}
-use Rattle.speaker.specs.SpeakerState.{SpeakerState, tables_of}
-use Rattle.routes.specs.Tables.{configured_session}
+use Rattle.runs.specs.SpeakerState.{SpeakerState, tables_of}
+use Rattle.routing.specs.Tables.{configured_session}
 use Rattle.speaker_settings.specs.PeerSlots.{has_slot}
 
 -- the speaker has a peer in the slot

@@ -1,9 +1,9 @@
 -- What a speaker of settings is made with (own).
 use Rattle.std.specs.Prelude.{ℕ, List, [], ◌∷◌, is_some, unwrap_or}
 use Rattle.bgp_fsm.specs.declared.timers.PeerTimers.{PeerTimers}
-use Rattle.speaker.specs.SlotTimes.{usual_timers, with_times}
-use Rattle.speaker.specs.declared.config.Config.{Config}
-use Rattle.speaker.specs.declared.config.SlotTimers.{SlotTimers}
+use Rattle.runs.specs.SlotTimes.{usual_timers, with_times}
+use Rattle.runs.specs.declared.config.Config.{Config}
+use Rattle.runs.specs.declared.config.SlotTimers.{SlotTimers}
 use Rattle.speaker_settings.specs.declared.settings.SpeakerSettings.{SpeakerSettings}
 
 -- the peers of these slots have these timers

@@ -4,11 +4,11 @@ ghost use Rattle.std.specs.Fn.{FnOnceReturnsAt};
 ghost use Rattle.file_paths.specs.OpenedFiles.{AreOctetsOf};
 ghost use Rattle.speaker_program.specs.Commanded.{IsCommanded, IsCommandedBy, ObeysText};
 ghost use Rattle.speaker_program.specs.Endings.{IsOfCommands, IsOfWords, IsUnread};
-ghost use Rattle.speaker.specs.SlotTimes.{usual_timers};
+ghost use Rattle.runs.specs.SlotTimes.{usual_timers};
 ghost use Rattle.speaker_program.specs.Slots.{HasJust, is_configured};
 ghost use Rattle.speaker_program.specs.ToldConfig.{config_of, with_all_times};
 ghost use Rattle.scenario.specs.FileLines.{lines};
-ghost use Rattle.speaker.specs.Agreement.{Agrees};
+ghost use Rattle.runs.specs.Agreement.{Agrees};
 
 use crate::fault::SpeakerFault;
 use crate::unobeyed::Unobeyed;

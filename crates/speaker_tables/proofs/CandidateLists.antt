@@ -4,8 +4,8 @@ use Rattle.std.proofs.lemmas.Bool.{cases_lt}
 use Rattle.std.proofs.lemmas.List.Elements.{Contains-append_left, Contains-push, Contains-push_cases}
 use Rattle.decision.specs.declared.candidate.Candidate.{Candidate}
 use Rattle.net_prefix.specs.declared.prefix.Prefix.{Prefix}
-use Rattle.routes.specs.Candidates.{AreCandidates, HasNoneAt, IsCandidate, IsOnlyCandidateAt}
-use Rattle.routes.specs.Tables.{Tables}
+use Rattle.routing.specs.Candidates.{AreCandidates, HasNoneAt, IsCandidate, IsOnlyCandidateAt}
+use Rattle.routing.specs.Tables.{Tables}
 
 -- the list has those of the slots below this one
 pub record AreCandidatesBelow (t : Tables) (prefix : Prefix) (n : ℕ) (cs : List Candidate) : Type 0 where

@@ -1,8 +1,8 @@
 //! The candidates of a prefix, each with the step at which it fell.
 ghost use Rattle.std.specs.Prelude.{◌≡◌, ◌≤◌, None, length, map};
-ghost use Rattle.routes.specs.Candidates.{AreCandidates};
+ghost use Rattle.routing.specs.Candidates.{AreCandidates};
 ghost use Rattle.selection_reasons.specs.Reasons.{all_steps, fell_by};
-ghost use Rattle.speaker.specs.SpeakerState.{tables_of};
+ghost use Rattle.runs.specs.SpeakerState.{tables_of};
 
 use arrayvec::ArrayVec;
 use decision::{Book, Candidate, LOCAL_SLOT, MAX_CANDIDATES};

@@ -1,9 +1,9 @@
 -- Calls of the speaker, one behind another, and what they carry for the session of a place.
 use Rattle.std.proofs.Common.{◌≡◌, ◌≢◌, ◌==◌, ◌<◌, ◌++◌, ℕ, Bool, true, false, nat_lt, if◌then◌else◌, List, [], ◌∷◌, refl, sym, ap, ◌∙◌, subst, append_assoc, append-nil, arith}
 use Rattle.std.proofs.lemmas.Bool.{eq-eqb, ne_eqb}
-use Rattle.speaker.specs.Agreement.{Agrees}
-use Rattle.speaker.specs.Runs.{Call, Run, asked, Up_call, Fail_call, Bytes_call, Starved_call, Tick_call, Command_call, Take_call, Cache_up_call, Cache_fail_call, Cache_bytes_call, Cache_starved_call, Cache_take_call}
-use Rattle.speaker.specs.SpeakerState.{SpeakerState}
+use Rattle.runs.specs.Agreement.{Agrees}
+use Rattle.runs.specs.Runs.{Call, Run, asked, Up_call, Fail_call, Bytes_call, Starved_call, Tick_call, Command_call, Take_call, Cache_up_call, Cache_fail_call, Cache_bytes_call, Cache_starved_call, Cache_take_call}
+use Rattle.runs.specs.SpeakerState.{SpeakerState}
 use Rattle.wires.proofs.Sockets.{both_none, chosen, passed_over}
 use Rattle.speaker_turns.specs.Carrying.{StaysUp, handed, handed_by, heard, heard_by}
 use Rattle.speaker_turns.specs.Ends.{end_at}

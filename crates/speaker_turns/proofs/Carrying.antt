@@ -3,12 +3,12 @@ use Rattle.std.proofs.Common.{◌≡◌, ◌≢◌, ◌≤◌, ◌<◌, ◌-◌,
 use Rattle.std.proofs.lemmas.Bool.{cases_eq}
 use Rattle.std.specs.declared.net.socket_addr.SocketAddr.{SocketAddr}
 use Rattle.std.proofs.lemmas.Option.{same_Some}
-use Rattle.speaker.specs.Agreement.{Agrees}
-use Rattle.speaker.specs.FirstRefusal.{awaits_up}
-use Rattle.speaker.specs.Runs.{Call, Run, Tick_call}
-use Rattle.speaker.specs.SpeakerState.{SpeakerState}
-use Rattle.speaker.specs.declared.config.Config.{Config}
-use Rattle.speaker.specs.declared.event.Report.{Report}
+use Rattle.runs.specs.Agreement.{Agrees}
+use Rattle.runs.specs.FirstRefusal.{awaits_up}
+use Rattle.runs.specs.Runs.{Call, Run, Tick_call}
+use Rattle.runs.specs.SpeakerState.{SpeakerState}
+use Rattle.runs.specs.declared.config.Config.{Config}
+use Rattle.runs.specs.declared.event.Report.{Report}
 use Rattle.wires.specs.Calls.{WireCall, Accept, Close}
 use Rattle.wires.specs.Carried.{given, taken}
 use Rattle.wires.specs.Counts.{Counts}

@@ -3,8 +3,8 @@ use Rattle.std.proofs.Common.{◌≡◌, ℕ, zero, suc, Bool, false, true, List
 use Rattle.std.specs.declared.net.socket_addr.SocketAddr.{SocketAddr}
 use Rattle.net_prefix.specs.declared.transport.Transport.{Transport}
 use Rattle.net_prefix.specs.declared.transport.Transport.TheVariants as transport
-use Rattle.speaker.specs.FirstRefusal.{awaits_up, may_bring_octets}
-use Rattle.speaker.specs.declared.event.Report.{Report}
+use Rattle.runs.specs.FirstRefusal.{awaits_up, may_bring_octets}
+use Rattle.runs.specs.declared.event.Report.{Report}
 use Rattle.wires.specs.Counts.{Counts, LosesJust, LosesNoMore}
 use Rattle.wires.specs.Wires.{WireState, attempting, one_more, reading, writing}
 use Rattle.wires.specs.declared.fault.LoopFault.{LoopFault}

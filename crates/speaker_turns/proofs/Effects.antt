@@ -1,8 +1,8 @@
 -- What happens at the place of one session: which calls are made for it, and what stands there behind them.
 use Rattle.std.proofs.Common.{◌≡◌, ◌≢◌, ◌≤◌, ◌<◌, ℕ, Bool, true, false, List, [], ◌∷◌, ◌++◌, refl, sym, ap, subst, ◌∙◌, append_assoc, append-nil, inl, inr, Option, Some, None, arith}
-use Rattle.speaker.specs.FirstRefusal.{awaits_up, may_bring_octets, may_fail}
-use Rattle.speaker.specs.Runs.{Call}
-use Rattle.speaker.specs.SpeakerState.{SpeakerState}
+use Rattle.runs.specs.FirstRefusal.{awaits_up, may_bring_octets, may_fail}
+use Rattle.runs.specs.Runs.{Call}
+use Rattle.runs.specs.SpeakerState.{SpeakerState}
 use Rattle.wires.specs.Calls.{WireCall, Close, Connect, Look, Try}
 use Rattle.wires.specs.Carried.{given, given_by, taken, taken_by}
 use Rattle.wires.specs.Wires.{WireState, attempting, one_more}

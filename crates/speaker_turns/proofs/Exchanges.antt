@@ -1,11 +1,11 @@
 -- What a connection carries while it is served: calls of the speaker and of the wire.
 use Rattle.std.proofs.Common.{◌≡◌, ◌<◌, ℕ, Bool, true, false, List, [], ◌∷◌, ◌++◌, refl, sym, ap, subst, ◌∙◌, append_assoc, append-nil, take-append-drop, Option, Some, None, is_some, take, drop, zero, suc}
 use Rattle.std.proofs.lemmas.Bool.{eq-eqb}
-use Rattle.speaker.specs.FirstRefusal.{may_bring_octets}
-use Rattle.routes.specs.Linked.{Linked}
-use Rattle.speaker.specs.Runs.{Call}
-use Rattle.speaker.specs.SpeakerState.{SpeakerState}
-use Rattle.routes.specs.Tables.{link_at}
+use Rattle.runs.specs.FirstRefusal.{may_bring_octets}
+use Rattle.routing.specs.Linked.{Linked}
+use Rattle.runs.specs.Runs.{Call}
+use Rattle.runs.specs.SpeakerState.{SpeakerState}
+use Rattle.routing.specs.Tables.{link_at}
 use Rattle.wires.specs.Calls.{WireCall, Read, Write}
 use Rattle.wires.specs.Carried.{given, given_by, taken, taken_by}
 use Rattle.wires.specs.TurnOctets.{turn_octets}

@@ -1,8 +1,8 @@
 -- A wire listens where it did, whatever turns are taken.
 use Rattle.std.proofs.Common.{◌≡◌, ℕ, zero, suc, Bool, true, false, List, [], ◌∷◌, refl, sym, ap, ◌∙◌, inl, inr, length, Option, Some, None, Result, Ok, Err}
 use Rattle.std.specs.declared.net.socket_addr.SocketAddr.{SocketAddr}
-use Rattle.speaker.specs.FirstRefusal.{awaits_up, may_bring_octets}
-use Rattle.speaker.specs.declared.event.Report.{Report}
+use Rattle.runs.specs.FirstRefusal.{awaits_up, may_bring_octets}
+use Rattle.runs.specs.declared.event.Report.{Report}
 use Rattle.wires.specs.Counts.{Counts}
 use Rattle.wires.specs.Wires.{WireState, attempting, reading, writing}
 use Rattle.wires.specs.declared.fault.LoopFault.{LoopFault}

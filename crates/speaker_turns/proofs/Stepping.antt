@@ -8,21 +8,21 @@ use Rattle.bgp_fsm.specs.Transports.{transport_of as session_transport}
 use Rattle.bgp_fsm.specs.declared.session.Session.{Session}
 use Rattle.std.proofs.lemmas.List.{length-take-le, take_min}
 use Rattle.std.proofs.Math.Seq.{take-append_seam}
-use Rattle.speaker.specs.Agreement.{Agrees}
-use Rattle.speaker.specs.FirstRefusal.{Grows, LacksMemory, cache_refused_at, refusal_of, refused_at, take_refusal_of}
-use Rattle.speaker.specs.Runs.{Cache_take_call, Call, Run, Take_call, Turn, asked, call_of, report_of, turn}
+use Rattle.runs.specs.Agreement.{Agrees}
+use Rattle.runs.specs.FirstRefusal.{Grows, LacksMemory, cache_refused_at, refusal_of, refused_at, take_refusal_of}
+use Rattle.runs.specs.Runs.{Cache_take_call, Call, Run, Take_call, Turn, asked, call_of, report_of, turn}
 use Rattle.speaker.specs.Shown.{transport_at, transport_or_none}
-use Rattle.speaker.specs.SpeakerState.{SpeakerState}
-use Rattle.speaker.specs.declared.config.Config.{Config}
-use Rattle.speaker.specs.declared.event.Event.{Event}
-use Rattle.speaker.specs.declared.event.Event.TheVariants.{Command as Commanded}
+use Rattle.runs.specs.SpeakerState.{SpeakerState}
+use Rattle.runs.specs.declared.config.Config.{Config}
+use Rattle.runs.specs.declared.event.Event.{Event}
+use Rattle.runs.specs.declared.event.Event.TheVariants.{Command as Commanded}
 use Rattle.bgp_conf.specs.declared.command.Command.{Command}
 use Rattle.speaker_turns.specs.Obeying.{Commanding}
-use Rattle.speaker.specs.declared.event.Report.{Report}
+use Rattle.runs.specs.declared.event.Report.{Report}
 use Rattle.rtr_session.specs.SessionState.{Session as CacheSession}
-use Rattle.routes.specs.Linked.{Linked}
-use Rattle.speaker.specs.Queueing.{Queue}
-use Rattle.routes.specs.Tables.{link_at}
+use Rattle.routing.specs.Linked.{Linked}
+use Rattle.runs.specs.Queueing.{Queue}
+use Rattle.routing.specs.Tables.{link_at}
 use Rattle.speaker_turns.specs.Sessions.{Asks, Makes, is_there, queued_for, ring_of_cache, ring_of_slot, take_call}
 use Rattle.speaker_turns.specs.declared.end.End.TheVariants.{Cache, Peer}
 use Rattle.speaker_turns.proofs.Exchanges.{take_none}

@@ -1,8 +1,8 @@
 -- What a socket carries over all turns, beside what its session heard and what the speaker handed out for it.
 use Rattle.std.specs.Prelude.{◌≡◌, ◌≢◌, ◌==◌, ◌++◌, ℕ, if◌then◌else◌, List, [], ◌∷◌, None}
-use Rattle.speaker.specs.Agreement.{Agrees}
-use Rattle.speaker.specs.Runs.{Call, Run, Up_call, Fail_call, Bytes_call, Starved_call, Tick_call, Command_call, Take_call, Cache_up_call, Cache_fail_call, Cache_bytes_call, Cache_starved_call, Cache_take_call}
-use Rattle.speaker.specs.declared.config.Config.{Config}
+use Rattle.runs.specs.Agreement.{Agrees}
+use Rattle.runs.specs.Runs.{Call, Run, Up_call, Fail_call, Bytes_call, Starved_call, Tick_call, Command_call, Take_call, Cache_up_call, Cache_fail_call, Cache_bytes_call, Cache_starved_call, Cache_take_call}
+use Rattle.runs.specs.declared.config.Config.{Config}
 use Rattle.wires.specs.Carried.{given, taken}
 use Rattle.speaker_turns.specs.Ends.{end_at}
 use Rattle.speaker_turns.specs.Serving.{Connection}

@@ -3,13 +3,13 @@ use Rattle.std.specs.Prelude.{◌≡◌, ◌∷◌, MatchOption, Result, Ok, Err
 use Rattle.bgp_conf.specs.declared.command.Command.{Command}
 use Rattle.bgp_conf.specs.declared.refusal.Refusal.{Refusal}
 use Rattle.bgp_conf.specs.declared.refusal.Refusal.TheVariants.{NoMemory}
-use Rattle.speaker.specs.Agreement.{Agrees}
-use Rattle.speaker.specs.FirstRefusal.{LacksMemory, refusal_of}
-use Rattle.speaker.specs.Runs.{Command_call, Run, Turn, asked, report_of}
-use Rattle.speaker.specs.SpeakerState.{SpeakerState}
-use Rattle.speaker.specs.declared.config.Config.{Config}
-use Rattle.speaker.specs.declared.event.Event.TheVariants.{Command as Commanded}
-use Rattle.speaker.specs.declared.event.Report.{Report}
+use Rattle.runs.specs.Agreement.{Agrees}
+use Rattle.runs.specs.FirstRefusal.{LacksMemory, refusal_of}
+use Rattle.runs.specs.Runs.{Command_call, Run, Turn, asked, report_of}
+use Rattle.runs.specs.SpeakerState.{SpeakerState}
+use Rattle.runs.specs.declared.config.Config.{Config}
+use Rattle.runs.specs.declared.event.Event.TheVariants.{Command as Commanded}
+use Rattle.runs.specs.declared.event.Report.{Report}
 use Rattle.speaker_turns.specs.Turns.{AtAll, GivesWay, Turns}
 
 -- a command is accepted, and this is what the call reports: for every run that the speaker agreed with, it agrees with that run

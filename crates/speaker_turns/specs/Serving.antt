@@ -3,8 +3,8 @@ use Rattle.std.specs.Prelude.{◌≡◌, ◌≢◌, ◌+◌, ◌⊎◌, ◌||◌
 use Rattle.std.specs.declared.net.socket_addr.SocketAddr.{SocketAddr}
 use Rattle.net_prefix.specs.declared.transport.Transport.{Transport}
 use Rattle.net_prefix.specs.declared.transport.Transport.TheVariants as transport
-use Rattle.speaker.specs.FirstRefusal.{awaits_up, may_bring_octets, may_fail}
-use Rattle.speaker.specs.SpeakerState.{SpeakerState}
+use Rattle.runs.specs.FirstRefusal.{awaits_up, may_bring_octets, may_fail}
+use Rattle.runs.specs.SpeakerState.{SpeakerState}
 use Rattle.wires.specs.Calls.{Connect}
 use Rattle.wires.specs.TurnOctets.{turn_octets}
 use Rattle.wires.specs.Wires.{FitsIn, WireState, attempting, calling, closing, failing, looking, one_more, reading, writing}

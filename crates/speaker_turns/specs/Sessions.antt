@@ -5,16 +5,16 @@ use Rattle.bgp_fsm.specs.StateTests.{awaits_open}
 use Rattle.bgp_fsm.specs.declared.state.State.{State}
 use Rattle.net_prefix.specs.declared.transport.Transport.{Transport}
 use Rattle.rtr_session.specs.SessionState.{Session as CacheSession}
-use Rattle.speaker.specs.Agreement.{Agrees}
-use Rattle.speaker.specs.FirstRefusal.{cache_transport_of}
-use Rattle.routes.specs.Linked.{Linked}
-use Rattle.speaker.specs.Runs.{Call, Run, Turn, asked, report_of, Up_call, Fail_call, Bytes_call, Tick_call, Take_call, Cache_up_call, Cache_fail_call, Cache_bytes_call, Cache_take_call}
+use Rattle.runs.specs.Agreement.{Agrees}
+use Rattle.runs.specs.FirstRefusal.{cache_transport_of}
+use Rattle.routing.specs.Linked.{Linked}
+use Rattle.runs.specs.Runs.{Call, Run, Turn, asked, report_of, Up_call, Fail_call, Bytes_call, Tick_call, Take_call, Cache_up_call, Cache_fail_call, Cache_bytes_call, Cache_take_call}
 use Rattle.speaker.specs.Shown.{transport_at, transport_or_none}
-use Rattle.speaker.specs.SpeakerState.{SpeakerState, tables_of}
-use Rattle.routes.specs.Tables.{configured_session, link_at, session_at}
-use Rattle.speaker.specs.declared.config.Config.{Config}
-use Rattle.speaker.specs.declared.event.Report.{Report}
-use Rattle.speaker.specs.declared.event.TheConstants.Report.{NOTHING}
+use Rattle.runs.specs.SpeakerState.{SpeakerState, tables_of}
+use Rattle.routing.specs.Tables.{configured_session, link_at, session_at}
+use Rattle.runs.specs.declared.config.Config.{Config}
+use Rattle.runs.specs.declared.event.Report.{Report}
+use Rattle.runs.specs.declared.event.TheConstants.Report.{NOTHING}
 use Rattle.speaker_turns.specs.declared.end.End.{End}
 use Rattle.speaker_turns.specs.declared.end.End.TheVariants.{Peer, Cache}
 

@@ -6,9 +6,9 @@ use Rattle.std.specs.declared.net.socket_addr.SocketAddr.{SocketAddr}
 use Rattle.net_prefix.specs.declared.transport.Transport.{Transport}
 use Rattle.net_prefix.specs.declared.transport.Transport.TheVariants as transport
 use Rattle.rib_out.specs.Slots.{has_slot}
-use Rattle.speaker.specs.FirstRefusal.{awaits_up}
-use Rattle.speaker.specs.SpeakerState.{SpeakerState}
-use Rattle.speaker.specs.declared.event.Report.{Report}
+use Rattle.runs.specs.FirstRefusal.{awaits_up}
+use Rattle.runs.specs.SpeakerState.{SpeakerState}
+use Rattle.runs.specs.declared.event.Report.{Report}
 use Rattle.wires.specs.Calls.{Accept}
 use Rattle.wires.specs.Counts.{Counts, counts_of_wire, losing_one}
 use Rattle.wires.specs.Wires.{WireState, accept_failing, arriving, calling, closing, one_more}

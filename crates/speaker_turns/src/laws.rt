@@ -1,8 +1,8 @@
 //! What follows of turns.
 ghost use Rattle.std.specs.Prelude.{◌≡◌, ◌<◌, ◌-◌, ◌^◌, ◌++◌, ℕ, List, Result, Ok, Err, Some, length, true};
-ghost use Rattle.speaker.specs.Agreement.{Agrees};
-ghost use Rattle.speaker.specs.Runs.{Run};
-ghost use Rattle.speaker.specs.declared.config.Config.{Config};
+ghost use Rattle.runs.specs.Agreement.{Agrees};
+ghost use Rattle.runs.specs.Runs.{Run};
+ghost use Rattle.runs.specs.declared.config.Config.{Config};
 ghost use Rattle.wires.specs.Counts.{LosesJust, LosesNoMore};
 ghost use Rattle.wires.specs.declared.fault.LoopFault.{LoopFault};
 ghost use Rattle.speaker_turns.specs.Carrying.{CarriesOwn, IsFresh};
@@ -10,7 +10,7 @@ ghost use Rattle.speaker_turns.specs.Ends.{place_count};
 ghost use Rattle.speaker_turns.specs.Losses.{LosesAllButOne};
 ghost use Rattle.bgp_conf.specs.declared.command.Command.{Command};
 ghost use Rattle.bgp_conf.specs.declared.refusal.Refusal.{Refusal};
-ghost use Rattle.speaker.specs.declared.event.Report.{Report};
+ghost use Rattle.runs.specs.declared.event.Report.{Report};
 ghost use Rattle.speaker_turns.specs.Obeying.{Obeys};
 ghost use Rattle.speaker_turns.specs.Outlasting.{OutlastsAStep};
 ghost use Rattle.speaker_turns.specs.Serving.{Connection, is_over, is_overdue};

@@ -1,6 +1,6 @@
 //! The place of one session: its connection, and what happens to it in a turn.
 ghost use Rattle.std.specs.Prelude.{◌≡◌, ◌↔◌, IfOk, IsTrue, None, Some, false, length, true};
-ghost use Rattle.speaker.specs.FirstRefusal.{awaits_up};
+ghost use Rattle.runs.specs.FirstRefusal.{awaits_up};
 ghost use Rattle.wires.specs.TurnOctets.{turn_octets};
 ghost use Rattle.wires.specs.Wires.{closing};
 ghost use Rattle.wires.specs.declared.wire.Parting.TheVariants.{NoPlace};

@@ -1,6 +1,6 @@
 //! A visit to a connection, or to an attempt at one.
 ghost use Rattle.std.specs.Prelude.{◌≡◌, ℕ, List, length};
-ghost use Rattle.speaker.specs.FirstRefusal.{may_bring_octets};
+ghost use Rattle.runs.specs.FirstRefusal.{may_bring_octets};
 ghost use Rattle.wires.specs.TurnOctets.{turn_octets};
 ghost use Rattle.speaker_turns.specs.Serving.{Answers, AnswersAt, Attends, AttendsAttempt, AttendsUp, Looks, Loses, Reads, Serves, Settles, Takes, Writes, answered_so, is_opening, judged, line_left};
 ghost use Rattle.speaker_turns.specs.Sessions.{transport_of};

@@ -1,8 +1,8 @@
 //! The calls of a speaker for one of its sessions.
 ghost use Rattle.std.specs.Prelude.{◌≡◌, ◌≤◌, ◌<◌, is_none, length, nat_le, take, true};
 ghost use Rattle.rib_out.specs.Slots.{has_slot};
-ghost use Rattle.speaker.specs.FirstRefusal.{Grows, awaits_up, may_bring_octets, may_fail, refusal_of};
-ghost use Rattle.speaker.specs.Runs.{call_of};
+ghost use Rattle.runs.specs.FirstRefusal.{Grows, awaits_up, may_bring_octets, may_fail, refusal_of};
+ghost use Rattle.runs.specs.Runs.{call_of};
 ghost use Rattle.speaker_turns.specs.Obeying.{Commanding};
 ghost use Rattle.speaker_turns.specs.Sessions.{Asks, Ticks, bytes_call, fail_call, is_in_open_sent, is_there, is_unopened, queued_for, take_call, transport_of, up_call, wanted_transport_of};
 ghost use Rattle.speaker_turns.specs.Turns.{has_opened};

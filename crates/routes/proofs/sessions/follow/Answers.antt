@@ -9,12 +9,12 @@ use Rattle.net_prefix.specs.declared.prefix.Prefix.{Prefix}
 use Rattle.rib_in.specs.LatestRoutes.{route_at}
 use Rattle.rib_out.specs.Alike.{IsListed}
 use Rattle.rib_out.specs.Waiting.{is_known, owed_at}
-use Rattle.routes.specs.Linked.{Linked}
-use Rattle.routes.specs.Marks.{AreMarked, IsFollowed, IsMarked, IsReleased, IsUnmarked, Mark, mark_at, mark_of, no_mark}
-use Rattle.routes.specs.RoutingState.{RoutingState}
-use Rattle.routes.specs.Tables.{link_at}
-use Rattle.routes.proofs.Counting.{ends_all}
-use Rattle.routes.proofs.Marking.{KeepsTables, all_marked, is_other, marked_none, marked_still, this_or_other}
+use Rattle.routing.specs.Linked.{Linked}
+use Rattle.routing.specs.Marks.{AreMarked, IsFollowed, IsMarked, IsReleased, IsUnmarked, Mark, mark_at, mark_of, no_mark}
+use Rattle.routing.specs.RoutingState.{RoutingState}
+use Rattle.routing.specs.Tables.{link_at}
+use Rattle.routing.proofs.Counting.{ends_all}
+use Rattle.routing.proofs.Marking.{KeepsTables, all_marked, is_other, marked_none, marked_still, this_or_other}
 use Rattle.routes.proofs.SlotMarks.{marked_asked}
 use Rattle.routes.proofs.sessions.follow.Goals as goal
 

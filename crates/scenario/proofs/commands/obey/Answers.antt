@@ -1,6 +1,6 @@
 use Rattle.scenario.proofs.ObeyedCommands.{refusal_told, takes_nothing}
 use Rattle.std.proofs.Common.{refl}
-use Rattle.speaker.specs.declared.event.Event.TheVariants.{Command as Commanded}
+use Rattle.runs.specs.declared.event.Event.TheVariants.{Command as Commanded}
 use Rattle.scenario.proofs.commands.obey.Goals as goal
 
 pub returns-in-Ok-clause-obeys : goal.returns-in-Ok-clause-obeys

@@ -1,4 +1,4 @@
-use Rattle.speaker.proofs.OtherSessions.{other_stays}
+use Rattle.runs.proofs.OtherSessions.{other_stays}
 use Rattle.speaker.proofs.laws.other_sessions_stay.Goals as goal
 
 pub returns : goal.returns

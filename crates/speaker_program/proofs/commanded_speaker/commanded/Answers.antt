@@ -1,6 +1,6 @@
 use Rattle.std.proofs.Common.{[], subst}
-use Rattle.speaker.specs.Agreement.{Agrees}
-use Rattle.speaker.specs.declared.config.Config.{Config}
+use Rattle.runs.specs.Agreement.{Agrees}
+use Rattle.runs.specs.declared.config.Config.{Config}
 use Rattle.speaker_program.proofs.Commanding.{commanded_by}
 use Rattle.speaker_program.proofs.OtherFaults.{other_fault}
 use Rattle.speaker_program.proofs.commanded_speaker.commanded.Goals as goal

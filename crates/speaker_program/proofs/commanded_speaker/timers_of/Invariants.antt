@@ -1,5 +1,5 @@
 use Rattle.std.proofs.Common.{◌≡◌, drop}
-use Rattle.speaker.specs.SlotTimes.{usual_timers}
+use Rattle.runs.specs.SlotTimes.{usual_timers}
 use Rattle.speaker_program.specs.ToldConfig.{with_all_times}
 use Rattle.speaker_program.proofs.commanded_speaker.timers_of.Given as goal
 

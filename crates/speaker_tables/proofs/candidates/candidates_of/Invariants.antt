@@ -1,4 +1,4 @@
-use Rattle.speaker.specs.SpeakerState.{tables_of}
+use Rattle.runs.specs.SpeakerState.{tables_of}
 use Rattle.speaker_tables.proofs.CandidateLists.{AreCandidatesBelow}
 use Rattle.speaker_tables.proofs.candidates.candidates_of.Given as goal
 

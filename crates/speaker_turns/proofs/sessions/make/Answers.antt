@@ -1,6 +1,6 @@
 use Rattle.std.proofs.Common.{◌∙◌, sym, subst, Bool}
-use Rattle.speaker.specs.FirstRefusal.{refusal_of}
-use Rattle.speaker.specs.Runs.{call_of}
+use Rattle.runs.specs.FirstRefusal.{refusal_of}
+use Rattle.runs.specs.Runs.{call_of}
 use Rattle.speaker_turns.specs.Sessions.{Asks}
 use Rattle.speaker_turns.proofs.Stepping.{steps_ask, steps_well}
 use Rattle.speaker_turns.proofs.sessions.make.Goals as goal

@@ -1,11 +1,11 @@
 use Rattle.std.proofs.Common.{◌≡◌, false, refl, ap}
 use Rattle.bgp_conf.specs.Configuration.{Configuration}
 use Rattle.bgp_fsm.specs.StateTests.{is_established}
-use Rattle.routes.specs.Linked.{Linked}
+use Rattle.routing.specs.Linked.{Linked}
 use Rattle.routes.proofs.AddedMarks.{marked_added, marked_links}
 use Rattle.routes.proofs.SlotMarks.{IsNow}
 use Rattle.routes.proofs.PutSlots.{put_back, put_inserted, sound_added}
-use Rattle.routes.proofs.Results.{OnErr-got, OnOk-got}
+use Rattle.routing.proofs.Results.{OnErr-got, OnOk-got}
 use Rattle.routes.proofs.routes.Routes.add_peer.Goals as goal
 
 pub invariant_of-self-else-is_err : goal.invariant_of-self-else-is_err

@@ -1,7 +1,7 @@
 use Rattle.std.proofs.Common.{Some, arith}
-use Rattle.routes.specs.Packing.{IsDue}
-use Rattle.routes.specs.RoutesState.{export_of}
-use Rattle.routes.proofs.Due.{passed_over}
+use Rattle.routing.specs.Packing.{IsDue}
+use Rattle.routing.specs.RoutesState.{export_of}
+use Rattle.routing.proofs.Due.{passed_over}
 use Rattle.routes.proofs.routes.Routes.alike_after.Goals as goal
 
 pub returns-then-is_alike-clause-behind : goal.returns-then-is_alike-clause-behind

@@ -1,12 +1,12 @@
 use Rattle.std.proofs.Common.{◌≡◌, ◌≤◌, ◌<◌, Some}
 use Rattle.bgp_fsm.specs.declared.state.State.TheVariants.{Established}
 use Rattle.net_prefix.specs.declared.prefix.Prefix.{Prefix}
-use Rattle.routes.specs.Linked.{Linked}
-use Rattle.routes.specs.Packing.{IsDue}
-use Rattle.routes.specs.Places.{rank_of}
-use Rattle.routes.specs.RoutesState.{export_of}
-use Rattle.routes.specs.Tables.{link_at}
-use Rattle.routes.proofs.Places.{left_above}
+use Rattle.routing.specs.Linked.{Linked}
+use Rattle.routing.specs.Packing.{IsDue}
+use Rattle.routing.specs.Places.{rank_of}
+use Rattle.routing.specs.RoutesState.{export_of}
+use Rattle.routing.specs.Tables.{link_at}
+use Rattle.routing.proofs.Places.{left_above}
 use Rattle.routes.proofs.routes.Routes.alike_after.Given as goal
 
 -- nothing that is due stands between the prefix that the walk began at and the one that it has come to

@@ -3,10 +3,10 @@ use Rattle.std.proofs.lemmas.Result.{err_from_is_err_and}
 use Rattle.bgp_attr.specs.PathAttributes.{originated}
 use Rattle.decision.specs.BookContents.{offer_at}
 use Rattle.decision.specs.declared.candidate.Candidate.{Candidate}
-use Rattle.routes.specs.Candidates.{network_at}
-use Rattle.routes.specs.Offers.{IsOwn}
-use Rattle.routes.specs.Tables.{payloads_under}
-use Rattle.routes.proofs.SoundOffers.{apart_with, network_own, sound_come, sound_gone}
+use Rattle.routing.specs.Candidates.{network_at}
+use Rattle.routing.specs.Offers.{IsOwn}
+use Rattle.routing.specs.Tables.{payloads_under}
+use Rattle.routing.proofs.SoundOffers.{apart_with, network_own, sound_come, sound_gone}
 use Rattle.routes.proofs.routes.Routes.announce_network.Goals as goal
 
 pub announce-requires-clause-apart : goal.announce-requires-clause-apart

@@ -1,7 +1,7 @@
 use Rattle.std.proofs.Common.{◌≡◌, ◌≢◌}
 use Rattle.net_prefix.specs.PayloadSets.{has}
 use Rattle.prefix_trie.specs.CoverWalks.{covers}
-use Rattle.routes.specs.Tables.{payloads_under}
+use Rattle.routing.specs.Tables.{payloads_under}
 use Rattle.routes.proofs.ObeyedExceptions.{answers_other, answers_same, asserted_all, asserted_none, assertion_conf, kept_excepting, obeyed, obeyed_none}
 use Rattle.routes.proofs.routes.Routes.assert.Goals as goal
 

@@ -1,8 +1,8 @@
 use Rattle.std.proofs.Common.{◌∙◌, ap, subst}
 use Rattle.loc_rib.specs.RibTables.{RibTables}
 use Rattle.rib_in.specs.LatestRoutes.{RouteTable}
-use Rattle.routes.specs.Offers.{IsOffer}
-use Rattle.routes.specs.Tables.{payloads_under, tables}
+use Rattle.routing.specs.Offers.{IsOffer}
+use Rattle.routing.specs.Tables.{payloads_under, tables}
 use Rattle.routes.proofs.routes.Routes.candidate_at.Goals as goal
 
 pub returns-in-Some : goal.returns-in-Some

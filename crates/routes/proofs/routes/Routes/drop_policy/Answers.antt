@@ -2,10 +2,10 @@ use Rattle.std.proofs.Common.{refl, sym, subst}
 use Rattle.bgp_conf.specs.ConfAfter.{conf_after}
 use Rattle.bgp_conf.specs.declared.command.Command.TheVariants.{DropPolicy}
 use Rattle.decision.specs.BookContents.{offer_at}
-use Rattle.routes.specs.Offers.{IsSound}
+use Rattle.routing.specs.Offers.{IsSound}
 use Rattle.routes.proofs.AddedMarks.{marked_dropped}
-use Rattle.routes.proofs.SoundOffers.{own_conf}
-use Rattle.routes.proofs.Results.{OnOk-sure}
+use Rattle.routing.proofs.SoundOffers.{own_conf}
+use Rattle.routing.proofs.Results.{OnOk-sure}
 use Rattle.routes.proofs.routes.Routes.drop_policy.Goals as goal
 
 pub invariant_of-self : goal.invariant_of-self

@@ -3,8 +3,8 @@ use Rattle.std.specs.Bool.{OnTrue}
 use Rattle.decision.specs.BookContents.{rows_of}
 use Rattle.export_rules.specs.Export.{Tells}
 use Rattle.loc_rib.specs.RibTables.{RibTables}
-use Rattle.routes.specs.Export.{IsAccepted, export_in}
-use Rattle.routes.specs.Tables.{best_at}
+use Rattle.routing.specs.Export.{IsAccepted, export_in}
+use Rattle.routing.specs.Tables.{best_at}
 use Rattle.routes.proofs.routes.Routes.export.Goals as goal
 
 pub returns-clause-tells : goal.returns-clause-tells

@@ -3,7 +3,7 @@ use Rattle.local_exceptions.specs.ExceptionSets.{is_turned}
 use Rattle.local_exceptions.specs.Filters.{has_filter}
 use Rattle.net_prefix.specs.declared.payload.Vrp.{Vrp}
 use Rattle.origin_valid.specs.Stretches.{prefixes_of, stretches}
-use Rattle.routes.specs.Offers.{is_within}
+use Rattle.routing.specs.Offers.{is_within}
 use Rattle.routes.proofs.ObeyedExceptions.{answers_other, answers_same, filter_conf, kept_excepting, obeyed, obeyed_none, turned_all, turned_none, turned_unloaded}
 use Rattle.routes.proofs.routes.Routes.filter.Goals as goal
 

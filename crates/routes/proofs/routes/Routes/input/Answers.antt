@@ -1,7 +1,7 @@
 use Rattle.std.proofs.Common.{◌≡◌, Bool, true, false, not, rules, refl, sym, ap, subst, ◌∙◌, inl, inr}
 use Rattle.bgp_fsm.specs.declared.session.Effects.{Effects}
 use Rattle.rib_out.specs.Held.{all_asked}
-use Rattle.routes.specs.Linked.{Linked}
+use Rattle.routing.specs.Linked.{Linked}
 use Rattle.routes.proofs.SlotMarks.{IsNow, followed}
 use Rattle.routes.proofs.routes.Routes.input.Goals as goal
 use Rattle.routes.proofs.routes.Routes.input.Goals.{then-effects, else-effects}

@@ -2,11 +2,11 @@ use Rattle.std.proofs.Common.{◌≡◌, ◌∙◌, ◌≤◌, ◌+◌, Option, 
 use Rattle.std.specs.Option.{option_and_then, option_map}
 use Rattle.bgp_msg.specs.MessageStream.{meaning}
 use Rattle.bgp_peer.specs.SessionInputs.{input_of}
-use Rattle.routes.specs.Chosen.{named_if}
-use Rattle.routes.specs.Heard.{IsHeard, KeepsUnnamed, TakesMemoryAt, update_heard}
-use Rattle.routes.specs.Linked.{Linked}
-use Rattle.routes.specs.Tables.{session_at}
-use Rattle.routes.proofs.Results.{IfOk-as, OnErr-as, OnErr-is, OnOk-as}
+use Rattle.routing.specs.Chosen.{named_if}
+use Rattle.routing.specs.Heard.{IsHeard, KeepsUnnamed, TakesMemoryAt, update_heard}
+use Rattle.routing.specs.Linked.{Linked}
+use Rattle.routing.specs.Tables.{session_at}
+use Rattle.routing.proofs.Results.{IfOk-as, OnErr-as, OnErr-is, OnOk-as}
 use Rattle.routes.proofs.routes.Routes.judge_front.Goals as goal
 
 some_same : {X : Type 0} (o : Option X) (x y : X) → Some x ≡ o → o ≡ Some y → x ≡ y

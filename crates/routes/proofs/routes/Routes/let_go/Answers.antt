@@ -1,5 +1,5 @@
 use Rattle.std.proofs.Common.{rules, ◌≡◌, ◌==◌, ℕ, None, cond}
-use Rattle.routes.specs.Tables.{link_at}
+use Rattle.routing.specs.Tables.{link_at}
 use Rattle.routes.proofs.AddedMarks.{marked_gone}
 use Rattle.routes.proofs.routes.Routes.let_go.Goals as goal
 

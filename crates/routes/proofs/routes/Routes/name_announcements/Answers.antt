@@ -1,10 +1,10 @@
 use Rattle.std.proofs.Common.{rules, ◌≡◌, ◌≤◌, ◌<◌, ◌-◌, ◌^◌, None, Some, [], length, arith, sym, subst, ◌∙◌}
 use Rattle.bgp_fsm.specs.declared.state.State.TheVariants.{Established}
-use Rattle.routes.specs.Linked.{Linked}
-use Rattle.routes.specs.Packing.{IsDue, IsFrom, most_named}
-use Rattle.routes.specs.Places.{rank_of}
-use Rattle.routes.specs.RoutesState.{export_of}
-use Rattle.routes.proofs.Due.{behind_from, coming_from, coming_alike}
+use Rattle.routing.specs.Linked.{Linked}
+use Rattle.routing.specs.Packing.{IsDue, IsFrom, most_named}
+use Rattle.routing.specs.Places.{rank_of}
+use Rattle.routing.specs.RoutesState.{export_of}
+use Rattle.routing.proofs.Due.{behind_from, coming_from, coming_alike}
 use Rattle.routes.proofs.Naming.{Names, Names-end, Names-full, Names-more, Names-start, named_few, taken_by}
 use Rattle.routes.proofs.routes.Routes.name_announcements.Goals as goal
 

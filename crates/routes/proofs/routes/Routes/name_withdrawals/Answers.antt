@@ -2,14 +2,14 @@ use Rattle.std.proofs.Common.{rules, ◌≡◌, ◌≤◌, ◌<◌, ◌-◌, ◌
 use Rattle.bgp_conf.specs.Configuration.{peer_at}
 use Rattle.bgp_fsm.specs.declared.state.State.TheVariants.{Established}
 use Rattle.rib_out.specs.Held.{held_at}
-use Rattle.routes.specs.Linked.{Linked}
-use Rattle.routes.specs.Owing.{withdrawn_of}
-use Rattle.routes.specs.Packing.{IsDue, IsFrom, most_named}
-use Rattle.routes.specs.Places.{rank_of}
-use Rattle.routes.specs.RoutesState.{export_of}
-use Rattle.routes.proofs.Due.{behind_from, behind_next, coming_from, coming_next, due_gone, due_withdrawn, withdrawn_due}
+use Rattle.routing.specs.Linked.{Linked}
+use Rattle.routing.specs.Owing.{withdrawn_of}
+use Rattle.routing.specs.Packing.{IsDue, IsFrom, most_named}
+use Rattle.routing.specs.Places.{rank_of}
+use Rattle.routing.specs.RoutesState.{export_of}
+use Rattle.routing.proofs.Due.{behind_from, behind_next, coming_from, coming_next, due_gone, due_withdrawn, withdrawn_due}
 use Rattle.routes.proofs.Naming.{Names, Names-more, Names-start, named_few, taken_by}
-use Rattle.routes.proofs.Owing.{some_of}
+use Rattle.routing.proofs.Owing.{some_of}
 use Rattle.routes.proofs.routes.Routes.name_withdrawals.Goals as goal
 
 pub loop-next-init : goal.loop-next-init

@@ -1,8 +1,8 @@
 use Rattle.std.proofs.Common.{◌≡◌, None, Some}
-use Rattle.routes.specs.Linked.{Linked}
-use Rattle.routes.specs.Packing.{IsDue, IsFrom, most_named}
-use Rattle.routes.specs.RoutesState.{export_of}
-use Rattle.routes.specs.Tables.{link_at}
+use Rattle.routing.specs.Linked.{Linked}
+use Rattle.routing.specs.Packing.{IsDue, IsFrom, most_named}
+use Rattle.routing.specs.RoutesState.{export_of}
+use Rattle.routing.specs.Tables.{link_at}
 use Rattle.routes.proofs.Naming.{Names}
 use Rattle.routes.proofs.routes.Routes.name_withdrawals.Given as goal
 

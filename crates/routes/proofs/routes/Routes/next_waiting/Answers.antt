@@ -1,4 +1,4 @@
-use Rattle.routes.proofs.Owing.{state_of}
+use Rattle.routing.proofs.Owing.{state_of}
 use Rattle.routes.proofs.WaitingRows.{none_beyond, owed_has, owed_least, owed_none}
 use Rattle.routes.proofs.routes.Routes.next_waiting.Goals as goal
 

@@ -2,14 +2,14 @@ use Rattle.std.proofs.Common.{◌≡◌, ◌∙◌, ℕ, List, false, refl, ap}
 use Rattle.bgp_conf.specs.Configuration.{Configuration, is_network, peer_at}
 use Rattle.decision.specs.BookContents.{offer_at}
 use Rattle.net_prefix.specs.declared.prefix.Prefix.{Prefix}
-use Rattle.routes.specs.Linked.{Linked}
-use Rattle.routes.specs.Marks.{AreMarked}
-use Rattle.routes.specs.Offers.{IsSound}
-use Rattle.routes.specs.RoutingState.{RoutingState}
+use Rattle.routing.specs.Linked.{Linked}
+use Rattle.routing.specs.Marks.{AreMarked}
+use Rattle.routing.specs.Offers.{IsSound}
+use Rattle.routing.specs.RoutingState.{RoutingState}
 use Rattle.routes.proofs.AddedMarks.{marked_reached}
-use Rattle.routes.proofs.SoundOffers.{sound_conf}
+use Rattle.routing.proofs.SoundOffers.{sound_conf}
 use Rattle.routes.proofs.LocalNetworks.{network_refused}
-use Rattle.routes.proofs.Results.{OnErr-got, OnOk-sure, told_false}
+use Rattle.routing.proofs.Results.{OnErr-got, OnOk-sure, told_false}
 use Rattle.routes.proofs.routes.Routes.originate.Goals as goal
 
 -- a configuration with another set of local networks alone

@@ -1,5 +1,5 @@
-use Rattle.routes.proofs.Due.{behind_listed, ranked_above}
-use Rattle.routes.proofs.Owing.{state_of}
+use Rattle.routing.proofs.Due.{behind_listed, ranked_above}
+use Rattle.routing.proofs.Owing.{state_of}
 use Rattle.routes.proofs.routes.Routes.possible_after.Goals as goal
 
 pub returns-clause-above : goal.returns-clause-above

@@ -1,5 +1,5 @@
 use Rattle.std.proofs.Common.{rules, sym, ap}
-use Rattle.routes.specs.Linked.{Linked}
+use Rattle.routing.specs.Linked.{Linked}
 use Rattle.routes.proofs.SlotMarks.{marked_put}
 use Rattle.routes.proofs.routes.Routes.push.Goals as goal
 

@@ -2,9 +2,9 @@ use Rattle.std.proofs.Common.{rules, ◌∙◌, ap, subst}
 use Rattle.bgp_conf.specs.ConfAfter.{TakesMemory, conf_after, peer_after}
 use Rattle.bgp_conf.specs.Configuration.{Configuration}
 use Rattle.decision.specs.BookContents.{offer_at}
-use Rattle.routes.specs.Offers.{IsSound}
+use Rattle.routing.specs.Offers.{IsSound}
 use Rattle.routes.proofs.AddedMarks.{marked_removed}
-use Rattle.routes.proofs.Results.{OnOk-sure}
+use Rattle.routing.proofs.Results.{OnOk-sure}
 use Rattle.routes.proofs.routes.Routes.remove_peer.Goals as goal
 
 pub invariant_of-self : goal.invariant_of-self

@@ -3,8 +3,8 @@ use Rattle.bgp_conf.specs.Configuration.{Configuration, peer_at}
 use Rattle.decision.specs.BookContents.{offer_at}
 use Rattle.rib_in.specs.LatestRoutes.{is_route}
 use Rattle.routes.proofs.AddedMarks.{marked_reached}
-use Rattle.routes.proofs.Results.{OnOk-sure}
-use Rattle.routes.proofs.SoundOffers.{sound_conf, sound_gone}
+use Rattle.routing.proofs.Results.{OnOk-sure}
+use Rattle.routing.proofs.SoundOffers.{sound_conf, sound_gone}
 use Rattle.routes.proofs.routes.Routes.retract.Goals as goal
 
 pub withdraw-requires : goal.withdraw-requires

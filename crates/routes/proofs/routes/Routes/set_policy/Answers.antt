@@ -1,6 +1,6 @@
 use Rattle.std.proofs.Common.{ap}
 use Rattle.bgp_conf.proofs.PolicyActions.{is_policy_name-from_accepted}
-use Rattle.routes.specs.RoutingState.{RoutingState}
+use Rattle.routing.specs.RoutingState.{RoutingState}
 use Rattle.routes.proofs.AddedMarks.{marked_set}
 use Rattle.routes.proofs.routes.Routes.set_policy.Goals as goal
 

@@ -1,12 +1,12 @@
 use Rattle.std.proofs.Common.{rules, ◌≡◌, true, Some, sym, ap, subst, ◌∙◌}
 use Rattle.decision.specs.BookContents.{offer_at}
 use Rattle.rib_out.specs.Held.{held_at, is_among}
-use Rattle.routes.specs.Linked.{Linked}
-use Rattle.routes.specs.Offers.{IsSound}
-use Rattle.routes.specs.RoutingState.{RoutingState}
+use Rattle.routing.specs.Linked.{Linked}
+use Rattle.routing.specs.Offers.{IsSound}
+use Rattle.routing.specs.RoutingState.{RoutingState}
 use Rattle.routes.proofs.SlotMarks.{IsNow, marked_put, marked_told}
-use Rattle.routes.proofs.Owing.{exported_to, state_of}
-use Rattle.routes.proofs.Results.{OnErr-is}
+use Rattle.routing.proofs.Owing.{exported_to, state_of}
+use Rattle.routing.proofs.Results.{OnErr-is}
 use Rattle.routes.proofs.ToldRoutes.{announced_released, exported_routed}
 use Rattle.routes.proofs.routes.Routes.tell_announcements.Goals as goal
 

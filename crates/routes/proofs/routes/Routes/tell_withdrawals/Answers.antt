@@ -1,12 +1,12 @@
 use Rattle.std.proofs.Common.{rules, None, sym, ap, subst}
 use Rattle.decision.specs.BookContents.{offer_at}
-use Rattle.routes.specs.Offers.{IsSound}
-use Rattle.routes.specs.RoutesState.{export_of}
-use Rattle.routes.specs.RoutingState.{RoutingState}
-use Rattle.routes.proofs.Due.{due_held}
-use Rattle.routes.proofs.Marking.{lists_stay, tables_stay}
+use Rattle.routing.specs.Offers.{IsSound}
+use Rattle.routing.specs.RoutesState.{export_of}
+use Rattle.routing.specs.RoutingState.{RoutingState}
+use Rattle.routing.proofs.Due.{due_held}
+use Rattle.routing.proofs.Marking.{lists_stay, tables_stay}
 use Rattle.routes.proofs.SlotMarks.{IsNow, marked_told}
-use Rattle.routes.proofs.Owing.{exported_to, state_of, withdrawn_there}
+use Rattle.routing.proofs.Owing.{exported_to, state_of, withdrawn_there}
 use Rattle.routes.proofs.routes.Routes.tell_withdrawals.Goals as goal
 
 pub told_all-requires-clause-known : goal.told_all-requires-clause-known

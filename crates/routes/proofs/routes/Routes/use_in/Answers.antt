@@ -1,7 +1,7 @@
 use Rattle.decision.specs.BookContents.{offer_at}
 use Rattle.routes.proofs.AddedMarks.{marked_importing}
-use Rattle.routes.proofs.Results.{OnOk-sure}
-use Rattle.routes.proofs.SoundOffers.{sound_importing}
+use Rattle.routing.proofs.Results.{OnOk-sure}
+use Rattle.routing.proofs.SoundOffers.{sound_importing}
 use Rattle.routes.proofs.routes.Routes.use_in.Goals as goal
 
 pub choose_slot-requires-clause-sound : goal.choose_slot-requires-clause-sound

@@ -1,12 +1,12 @@
 use Rattle.std.proofs.Common.{◌≡◌, ap, refl, sym, subst, inl}
 use Rattle.decision.specs.BookContents.{offer_at}
-use Rattle.routes.specs.Offers.{IsSound}
-use Rattle.routes.specs.RoutingState.{RoutingState}
+use Rattle.routing.specs.Offers.{IsSound}
+use Rattle.routing.specs.RoutingState.{RoutingState}
 use Rattle.routes.proofs.AddedMarks.{marked_exporting}
-use Rattle.routes.proofs.Marking.{all_marked, is_other, this_or_other}
+use Rattle.routing.proofs.Marking.{all_marked, is_other, this_or_other}
 use Rattle.routes.proofs.PutSlots.{slot_used}
-use Rattle.routes.proofs.Results.{OnOk-sure}
-use Rattle.routes.proofs.SoundOffers.{sound_exporting}
+use Rattle.routing.proofs.Results.{OnOk-sure}
+use Rattle.routing.proofs.SoundOffers.{sound_exporting}
 use Rattle.routes.proofs.routes.Routes.use_out.Goals as goal
 
 pub mark_slot-requires-clause-slot : goal.mark_slot-requires-clause-slot

@@ -2,8 +2,8 @@ use Rattle.std.proofs.Common.{◌∙◌, ap}
 use Rattle.std.specs.Option.{option_map}
 use Rattle.bgp_conf.specs.Configuration.{peer_at}
 use Rattle.decision.specs.BookContents.{rows_of}
-use Rattle.routes.specs.Export.{export_peer_of}
-use Rattle.routes.specs.Waiting.{waiting_at}
+use Rattle.routing.specs.Export.{export_peer_of}
+use Rattle.routing.specs.Waiting.{waiting_at}
 use Rattle.routes.proofs.routes.Routes.waiting.Goals as goal
 
 pub returns-clause-all : goal.returns-clause-all

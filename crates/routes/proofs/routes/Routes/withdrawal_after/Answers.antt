@@ -1,5 +1,5 @@
 use Rattle.rib_out.specs.declared.marks.Owed.TheVariants.{Withdrawal}
-use Rattle.routes.proofs.Owing.{next_withdrawn, none_next, state_of}
+use Rattle.routing.proofs.Owing.{next_withdrawn, none_next, state_of}
 use Rattle.routes.proofs.routes.Routes.withdrawal_after.Goals as goal
 
 pub returns-clause-next : goal.returns-clause-next

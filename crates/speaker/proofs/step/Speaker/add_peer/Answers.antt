@@ -1,6 +1,6 @@
 use Rattle.std.proofs.Common.{refl, ap, arith}
 use Rattle.std.proofs.lemmas.Result.{err_from_is_err_and}
-use Rattle.routes.specs.RoutesState.{RoutesState}
+use Rattle.routing.specs.RoutesState.{RoutesState}
 use Rattle.speaker.proofs.Commands.{holds_added, added_same}
 use Rattle.speaker.proofs.RoutesSeen.{as_before}
 use Rattle.speaker.proofs.step.Speaker.add_peer.Goals as goal

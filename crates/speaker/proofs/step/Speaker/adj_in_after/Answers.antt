@@ -1,4 +1,4 @@
-use Rattle.routes.proofs.WaitingLists.{nothing_rises}
+use Rattle.routing.proofs.WaitingLists.{nothing_rises}
 use Rattle.speaker.proofs.ViewsBehind.{none_after}
 use Rattle.speaker.proofs.step.Speaker.adj_in_after.Goals as goal
 

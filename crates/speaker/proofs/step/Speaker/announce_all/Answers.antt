@@ -1,13 +1,13 @@
 use Rattle.std.proofs.Common.{◌≡◌, Some, None, ap}
 use Rattle.rib_out.specs.Held.{asked_at, held_at}
-use Rattle.routes.specs.Export.{export_in}
+use Rattle.routing.specs.Export.{export_in}
 use Rattle.speaker.specs.Export.{export_to}
-use Rattle.routes.specs.Owing.{announced_of}
+use Rattle.routing.specs.Owing.{announced_of}
 use Rattle.speaker.specs.Serving.{HasRoomAt, IsHad}
-use Rattle.routes.specs.Tables.{best_at}
-use Rattle.routes.proofs.Results.{OnErr-is}
+use Rattle.routing.specs.Tables.{best_at}
+use Rattle.routing.proofs.Results.{OnErr-is}
 use Rattle.speaker.proofs.Serving.{announced_is_new, export_kept, had_by, peer_now, served_by, Serves-still, short_still, Walks-announced, Walks-end, Walks-had}
-use Rattle.routes.proofs.Places.{left-smaller}
+use Rattle.routing.proofs.Places.{left-smaller}
 use Rattle.speaker.proofs.step.Speaker.announce_all.Goals as goal
 use Rattle.speaker.proofs.step.Speaker.announce_all.Goals.{then-export+in_ok-announce_from, else-export}
 

@@ -1,5 +1,5 @@
 use Rattle.std.proofs.Common.{false, refl}
-use Rattle.speaker.specs.Runs.{cache_history}
+use Rattle.runs.specs.Runs.{cache_history}
 use Rattle.speaker.proofs.CacheSteps.{agreed_session, holds_cache_ticked, holds_none_ticked, none_from_not}
 use Rattle.speaker.proofs.Revalidating.{cache_moved}
 use Rattle.speaker.proofs.step.Speaker.cache_tick.Goals as goal

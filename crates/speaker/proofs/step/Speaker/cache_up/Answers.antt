@@ -1,7 +1,7 @@
 use Rattle.std.proofs.Common.{◌≡◌, ◌∙◌, refl, sym, ap, arith}
 use Rattle.rtr_session.specs.SessionHistory as cached
-use Rattle.speaker.specs.Runs.{Cache_up_call, cache_history}
-use Rattle.speaker.specs.SpeakerState.{SpeakerState}
+use Rattle.runs.specs.Runs.{Cache_up_call, cache_history}
+use Rattle.runs.specs.SpeakerState.{SpeakerState}
 use Rattle.speaker.proofs.CacheSteps.{cache_moment, holds_cached}
 use Rattle.speaker.proofs.Revalidating.{cache_moved}
 use Rattle.speaker.proofs.step.Speaker.cache_up.Goals as goal

@@ -4,11 +4,11 @@ use Rattle.local_exceptions.specs.ExceptionSets.{behind}
 use Rattle.net_prefix.specs.declared.payload.Vrp.{Vrp}
 use Rattle.origin_valid.specs.Stretches.{changed_prefixes, stretches}
 use Rattle.rib_in.specs.LatestRoutes.{HasRoute}
-use Rattle.routes.specs.Chosen.{OncePerPrefix}
-use Rattle.routes.specs.Offers.{AreMadeWhere, is_within}
-use Rattle.routes.specs.RoutesState.{RoutesState, tables_in}
+use Rattle.routing.specs.Chosen.{OncePerPrefix}
+use Rattle.routing.specs.Offers.{AreMadeWhere, is_within}
+use Rattle.routing.specs.RoutesState.{RoutesState, tables_in}
 use Rattle.speaker.specs.CacheMoves.{last_change}
-use Rattle.speaker.specs.SpeakerState.{SpeakerState}
+use Rattle.runs.specs.SpeakerState.{SpeakerState}
 use Rattle.vrp_delta.specs.Delta.{Change, change_between}
 use Rattle.speaker.proofs.Revalidating.{revalidated}
 use Rattle.speaker.proofs.step.Speaker.choose_touched.Goals as goal

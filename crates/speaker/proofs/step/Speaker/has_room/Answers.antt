@@ -1,6 +1,6 @@
 use Rattle.std.proofs.Common.{◌≡◌}
 use Rattle.speaker.proofs.Messages.{some_same}
-use Rattle.routes.proofs.Results.{room_test}
+use Rattle.routing.proofs.Results.{room_test}
 use Rattle.speaker.proofs.step.Speaker.has_room.Goals as goal
 
 pub returns-in-Some : goal.returns-in-Some

@@ -1,8 +1,8 @@
 use Rattle.std.proofs.Common.{◌∙◌, arith}
 use Rattle.std.proofs.lemmas.List.{take-append-drop}
-use Rattle.speaker.proofs.Coming.{HasCome-start, HasCome-more, HasCome-end, none_left, some_left}
+use Rattle.runs.proofs.Coming.{HasCome-start, HasCome-more, HasCome-end, none_left, some_left}
 use Rattle.speaker.proofs.Events.{HasCome-until, Hears-more, Hears-none, Hears-start}
-use Rattle.routes.proofs.Results.{OnErr-is}
+use Rattle.routing.proofs.Results.{OnErr-is}
 use Rattle.speaker.proofs.step.Speaker.hear.Goals as goal
 
 pub loop-rest-init : goal.loop-rest-init

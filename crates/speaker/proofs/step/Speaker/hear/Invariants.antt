@@ -1,6 +1,6 @@
 use Rattle.std.proofs.Common.{length}
-use Rattle.speaker.specs.Agreement.{Hears}
-use Rattle.speaker.proofs.Coming.{HasCome}
+use Rattle.runs.specs.Agreement.{Hears}
+use Rattle.runs.proofs.Coming.{HasCome}
 use Rattle.speaker.proofs.step.Speaker.hear.Given as goal
 
 abbrev pub invariant-loop-rest : goal.invariant-loop-rest

@@ -1,8 +1,8 @@
 use Rattle.std.proofs.Common.{◌∙◌, arith}
 use Rattle.std.proofs.lemmas.List.{take-append-drop}
-use Rattle.speaker.specs.Agreement.{CacheHears}
+use Rattle.runs.specs.Agreement.{CacheHears}
 use Rattle.speaker.proofs.CacheSteps.{cache_more, cache_none, cache_start, cache_until}
-use Rattle.speaker.proofs.Coming.{HasCome-start, HasCome-more, HasCome-end, none_left}
+use Rattle.runs.proofs.Coming.{HasCome-start, HasCome-more, HasCome-end, none_left}
 use Rattle.speaker.proofs.step.Speaker.hear_cache.Goals as goal
 
 pub loop-rest-init : goal.loop-rest-init

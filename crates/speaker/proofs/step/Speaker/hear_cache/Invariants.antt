@@ -1,7 +1,7 @@
 use Rattle.std.proofs.Common.{length}
 use Rattle.std.specs.Option.{IsSome}
-use Rattle.speaker.specs.Agreement.{CacheHears}
-use Rattle.speaker.proofs.Coming.{HasCome}
+use Rattle.runs.specs.Agreement.{CacheHears}
+use Rattle.runs.proofs.Coming.{HasCome}
 use Rattle.speaker.proofs.step.Speaker.hear_cache.Given as goal
 
 abbrev pub invariant-loop-rest : goal.invariant-loop-rest

@@ -1,7 +1,7 @@
 use Rattle.std.proofs.Common.{◌≢◌, ◌∙◌, take, refl, ap, arith}
 use Rattle.net_prefix.specs.declared.transport.Transport.TheVariants.{Open as Connected}
 use Rattle.rtr_codec.specs.ClientTable.{transport_of}
-use Rattle.speaker.specs.SpeakerState.{SpeakerState}
+use Rattle.runs.specs.SpeakerState.{SpeakerState}
 use Rattle.speaker.proofs.CacheSteps.{cache_dropped_whole, cache_heard, cache_starves}
 use Rattle.speaker.proofs.Revalidating.{cache_moved}
 use Rattle.speaker.proofs.step.Speaker.hear_cache_next.Goals as goal

@@ -3,15 +3,15 @@ use Rattle.std.proofs.lemmas.List.{take-append-drop}
 use Rattle.bgp_conf.specs.Configuration.{peer_at}
 use Rattle.bgp_msg.specs.MessageStream.{meaning}
 use Rattle.bgp_peer.specs.Slot.{pushed}
-use Rattle.speaker.specs.Agreement.{HearsUntil}
+use Rattle.runs.specs.Agreement.{HearsUntil}
 use Rattle.bgp_peer.specs.SessionInputs.{kind_of}
-use Rattle.routes.specs.Heard.{TakesMemoryAt}
+use Rattle.routing.specs.Heard.{TakesMemoryAt}
 use Rattle.speaker.specs.Moves.{TakesItem}
-use Rattle.speaker.proofs.SlotEvents.{with_peer}
-use Rattle.speaker.specs.Runs.{terms_in, turn, Bytes_call}
-use Rattle.speaker.specs.declared.config.Config.{Config}
+use Rattle.runs.proofs.SlotEvents.{with_peer}
+use Rattle.runs.specs.Runs.{terms_in, turn, Bytes_call}
+use Rattle.runs.specs.declared.config.Config.{Config}
 use Rattle.speaker.proofs.Events.{slot_of, holds_heard, holds_shut, taken_shut, taken_open, taken_wanted, put_here, some_taken, starves_heard}
-use Rattle.routes.proofs.Results.{OnErr-is}
+use Rattle.routing.proofs.Results.{OnErr-is}
 use Rattle.speaker.proofs.step.Speaker.hear_front.Goals as goal
 
 pub returns-then-taken-eq0-clause-shut : goal.returns-then-taken-eq0-clause-shut

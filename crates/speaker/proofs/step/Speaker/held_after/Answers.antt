@@ -1,7 +1,7 @@
 use Rattle.std.proofs.Common.{◌≡◌, ◌∙◌, ap}
 use Rattle.prefix_trie.specs.TrieWalks.{all_after}
 use Rattle.rib_out.specs.Held.{octets_of}
-use Rattle.routes.proofs.WaitingLists.{nothing_rises}
+use Rattle.routing.proofs.WaitingLists.{nothing_rises}
 use Rattle.speaker.specs.Shown.{held_by}
 use Rattle.speaker.proofs.ViewsBehind.{none_after}
 use Rattle.speaker.proofs.step.Speaker.held_after.Goals as goal

@@ -1,7 +1,7 @@
 use Rattle.std.proofs.Common.{◌≡◌, ◌∙◌, ap}
 use Rattle.rib_out.specs.Held.{octets_of}
 use Rattle.speaker.specs.Shown.{held_by}
-use Rattle.routes.proofs.WaitingLists.{nothing_rises}
+use Rattle.routing.proofs.WaitingLists.{nothing_rises}
 use Rattle.speaker.proofs.step.Speaker.held_rows.Goals as goal
 
 pub returns-in-Some-clause-all : goal.returns-in-Some-clause-all

@@ -1,7 +1,7 @@
 use Rattle.std.proofs.Common.{◌≡◌, ◌∙◌, ap, sym}
-use Rattle.routes.specs.Linked.{Linked}
+use Rattle.routing.specs.Linked.{Linked}
 use Rattle.speaker.proofs.Messages.{some_same}
-use Rattle.routes.proofs.Results.{OnTrue-if}
+use Rattle.routing.proofs.Results.{OnTrue-if}
 use Rattle.speaker.proofs.step.Speaker.is_up.Goals as goal
 
 pub returns-in-Some-clause-up : goal.returns-in-Some-clause-up

@@ -1,5 +1,5 @@
 use Rattle.std.proofs.Common.{refl, ap}
-use Rattle.routes.specs.RoutesState.{RoutesState}
+use Rattle.routing.specs.RoutesState.{RoutesState}
 use Rattle.speaker.proofs.step.Speaker.let_go.Goals as goal
 
 pub returns-clause-gone : goal.returns-clause-gone

@@ -1,4 +1,4 @@
-use Rattle.speaker.specs.Agreement.{tables_after}
+use Rattle.runs.specs.Agreement.{tables_after}
 use Rattle.speaker.proofs.ShownRoutes.{best_shown}
 use Rattle.speaker.proofs.step.Speaker.loc_rib.Goals as goal
 

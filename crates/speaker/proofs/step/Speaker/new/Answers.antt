@@ -1,5 +1,5 @@
 use Rattle.std.proofs.Common.{[], sym, subst, ◌∙◌}
-use Rattle.speaker.specs.Agreement.{Agrees}
+use Rattle.runs.specs.Agreement.{Agrees}
 use Rattle.speaker.proofs.ListedEvents.{agrees_new, some_number}
 use Rattle.speaker.proofs.step.Speaker.new.Goals as goal
 

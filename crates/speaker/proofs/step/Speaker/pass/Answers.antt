@@ -1,6 +1,6 @@
 use Rattle.std.proofs.Common.{◌∙◌, arith}
 use Rattle.speaker.proofs.Passing.{QueuesOn-more}
-use Rattle.routes.proofs.Results.{OnErr-got, OnOk-got}
+use Rattle.routing.proofs.Results.{OnErr-got, OnOk-got}
 use Rattle.speaker.proofs.Serving.{AreServed-more, served_all}
 use Rattle.speaker.proofs.step.Speaker.pass.Goals as goal
 

@@ -1,5 +1,5 @@
 use Rattle.std.proofs.Common.{◌∙◌}
-use Rattle.routes.specs.Tables.{payloads_under}
+use Rattle.routing.specs.Tables.{payloads_under}
 use Rattle.speaker.proofs.step.Speaker.payloads.Goals as goal
 
 pub returns-clause-agrees : goal.returns-clause-agrees

@@ -1,6 +1,6 @@
 use Rattle.std.proofs.Common.{◌∙◌, sym, ap}
 use Rattle.bgp_conf.specs.Configuration.{Configuration}
-use Rattle.speaker.specs.SpeakerState.{payloads_in}
+use Rattle.runs.specs.SpeakerState.{payloads_in}
 use Rattle.speaker.proofs.ShownRoutes.{nothing_in_force}
 use Rattle.speaker.proofs.ViewsBehind.{in_force_as}
 use Rattle.speaker.proofs.step.Speaker.payloads_behind.Goals as goal

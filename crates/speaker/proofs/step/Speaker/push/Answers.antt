@@ -1,5 +1,5 @@
 use Rattle.std.proofs.Common.{refl, ap}
-use Rattle.routes.specs.RoutesState.{RoutesState}
+use Rattle.routing.specs.RoutesState.{RoutesState}
 use Rattle.speaker.proofs.step.Speaker.push.Goals as goal
 
 pub returns-clause-count : goal.returns-clause-count

@@ -1,6 +1,6 @@
 use Rattle.std.proofs.Common.{◌∙◌, refl, arith}
 use Rattle.speaker.specs.Serving.{is_standing}
-use Rattle.routes.specs.Tables.{link_at}
+use Rattle.routing.specs.Tables.{link_at}
 use Rattle.speaker.proofs.Standing.{QueuesAll-none, QueuesAll-on, QueuesAll-starved, count_less, count_same, fewer, short_stands}
 use Rattle.speaker.proofs.step.Speaker.queue_updates.Goals as goal
 

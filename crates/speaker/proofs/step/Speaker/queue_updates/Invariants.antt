@@ -1,7 +1,7 @@
 use Rattle.std.proofs.Common.{◌≡◌, ◌≤◌}
-use Rattle.speaker.specs.Agreement.{QueuesAll}
+use Rattle.runs.specs.Agreement.{QueuesAll}
 use Rattle.speaker.specs.Serving.{is_standing}
-use Rattle.routes.specs.Tables.{link_at}
+use Rattle.routing.specs.Tables.{link_at}
 use Rattle.speaker.proofs.Standing.{count_standing}
 use Rattle.speaker.proofs.step.Speaker.queue_updates.Given as goal
 

@@ -1,4 +1,4 @@
-use Rattle.routes.proofs.WaitingLists.{nothing_rises}
+use Rattle.routing.proofs.WaitingLists.{nothing_rises}
 use Rattle.speaker.proofs.step.Speaker.received_rows.Goals as goal
 
 pub returns-then-slot-eq-LOCAL_SLOT-clause-rising : goal.returns-then-slot-eq-LOCAL_SLOT-clause-rising

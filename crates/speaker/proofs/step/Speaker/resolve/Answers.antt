@@ -1,5 +1,5 @@
 use Rattle.std.proofs.Common.{refl, ap}
-use Rattle.routes.specs.RoutesState.{RoutesState}
+use Rattle.routing.specs.RoutesState.{RoutesState}
 use Rattle.speaker.proofs.Commands.{holds_resolved, resolved, resolved_opened}
 use Rattle.speaker.proofs.RoutesSeen.{made_of}
 use Rattle.speaker.proofs.step.Speaker.resolve.Goals as goal

@@ -1,6 +1,6 @@
 use Rattle.std.proofs.Common.{refl, ap}
 use Rattle.bgp_conf.specs.declared.command.Command.TheVariants.{SetPolicy}
-use Rattle.routes.specs.RoutesState.{RoutesState}
+use Rattle.routing.specs.RoutesState.{RoutesState}
 use Rattle.speaker.proofs.Commands.{holds_resolved, resolved_set}
 use Rattle.speaker.proofs.RoutesSeen.{made_of}
 use Rattle.speaker.proofs.step.Speaker.set_policy.Goals as goal

@@ -1,7 +1,7 @@
 use Rattle.std.proofs.Common.{◌≡◌, ◌∙◌, Some, ap}
 use Rattle.std.specs.Option.{option_map}
 use Rattle.bgp_fsm.specs.declared.session.Session.{Session}
-use Rattle.routes.specs.Linked.{Linked}
+use Rattle.routing.specs.Linked.{Linked}
 use Rattle.speaker.proofs.step.Speaker.state_at.Goals as goal
 
 pub returns-in-Some : goal.returns-in-Some

@@ -1,8 +1,8 @@
 use Rattle.std.specs.Int.Bits.{or_zero_l}
 use Rattle.std.proofs.Common.{◌∙◌, refl, ap, subst, arith}
-use Rattle.speaker.specs.SpeakerState.{SpeakerState}
-use Rattle.speaker.specs.Agreement.{QueuesAll}
-use Rattle.speaker.specs.Queueing.{starved_in}
+use Rattle.runs.specs.SpeakerState.{SpeakerState}
+use Rattle.runs.specs.Agreement.{QueuesAll}
+use Rattle.runs.specs.Queueing.{starved_in}
 use Rattle.speaker.proofs.Takes.{taken_agrees, link_there}
 use Rattle.speaker.proofs.step.Speaker.take.Goals as goal
 

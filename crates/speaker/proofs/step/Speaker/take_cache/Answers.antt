@@ -1,6 +1,6 @@
 use Rattle.std.proofs.Common.{◌∙◌, Some, sym, ap}
-use Rattle.speaker.specs.Runs.{cache_history}
-use Rattle.speaker.specs.SpeakerState.{SpeakerState}
+use Rattle.runs.specs.Runs.{cache_history}
+use Rattle.runs.specs.SpeakerState.{SpeakerState}
 use Rattle.speaker.proofs.CacheSteps.{agrees_none, agrees_taken}
 use Rattle.speaker.proofs.step.Speaker.take_cache.Goals as goal
 use Rattle.speaker.proofs.step.Speaker.take_cache.Goals.{in-Some, in-None}

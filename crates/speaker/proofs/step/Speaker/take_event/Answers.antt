@@ -1,12 +1,12 @@
 use Rattle.std.proofs.Common.{[], ◌∷◌, ◌∙◌, refl, sym, ap, arith}
 use Rattle.bgp_fsm.specs.declared.input.Input.TheVariants.{Up}
-use Rattle.speaker.specs.Runs.{turn, call_of, Up_call, Fail_call, Bytes_call, Tick_call, Command_call, Cache_up_call, Cache_fail_call}
-use Rattle.speaker.specs.FirstRefusal.{awaits_up, may_fail, may_bring_octets}
-use Rattle.speaker.specs.declared.event.Report.{Report}
+use Rattle.runs.specs.Runs.{turn, call_of, Up_call, Fail_call, Bytes_call, Tick_call, Command_call, Cache_up_call, Cache_fail_call}
+use Rattle.runs.specs.FirstRefusal.{awaits_up, may_fail, may_bring_octets}
+use Rattle.runs.specs.declared.event.Report.{Report}
 use Rattle.speaker.proofs.CacheSteps.{ready_cached}
 use Rattle.speaker.proofs.Commands.{accepted, accepted_configured, awaits_none, holds_signalled, open_or, open_stands, peer_of}
 use Rattle.speaker.proofs.Events.{IsReady, begun, holds_begun, holds_dropped, holds_nothing, ready_starved, steps}
-use Rattle.routes.proofs.Results.{OnErr-got, OnOk-got}
+use Rattle.routing.proofs.Results.{OnErr-got, OnOk-got}
 use Rattle.speaker.proofs.step.Speaker.take_event.Goals as goal
 use Rattle.speaker.proofs.step.Speaker.take_event.Goals.{in-Command+in-Ok, in-Up, in-Fail, in-Bytes+then-is_open+then-is_err, in-Bytes+then-is_open+else-is_err, in-Bytes+else-is_open, in-CacheUp, in-CacheFail, in-CacheBytes, in-Tick}
 

@@ -3,11 +3,11 @@ use Rattle.bgp_conf.specs.Configuration.{peer_at}
 use Rattle.bgp_fsm.specs.SessionTable.{effects_of}
 use Rattle.bgp_fsm.specs.declared.input.Input.TheVariants.{NoMemory}
 use Rattle.bgp_peer.specs.SessionInputs.{kind_of}
-use Rattle.routes.specs.Heard.{TakesMemoryAt}
-use Rattle.routes.specs.RoutesState.{RoutesState}
-use Rattle.routes.specs.Tables.{link_at}
-use Rattle.speaker.specs.Runs.{terms_in}
-use Rattle.speaker.specs.SpeakerState.{SpeakerState}
+use Rattle.routing.specs.Heard.{TakesMemoryAt}
+use Rattle.routing.specs.RoutesState.{RoutesState}
+use Rattle.routing.specs.Tables.{link_at}
+use Rattle.runs.specs.Runs.{terms_in}
+use Rattle.runs.specs.SpeakerState.{SpeakerState}
 use Rattle.speaker.proofs.Messages.{refused_chosen, rises_once, rises_twice, starves, takes, takes_none, some_same}
 use Rattle.speaker.proofs.step.Speaker.take_message.Goals as goal
 

@@ -1,9 +1,9 @@
 use Rattle.std.proofs.Common.{◌∷◌, sym, ap, subst}
 use Rattle.bgp_peer.specs.SessionInputs.{Ticked}
-use Rattle.speaker.specs.Agreement.{HoldsBy}
-use Rattle.speaker.specs.Runs.{cache_history, configuration_of, history}
-use Rattle.speaker.specs.SpeakerState.{SpeakerState}
-use Rattle.speaker.specs.declared.event.Report.{Report}
+use Rattle.runs.specs.Agreement.{HoldsBy}
+use Rattle.runs.specs.Runs.{cache_history, configuration_of, history}
+use Rattle.runs.specs.SpeakerState.{SpeakerState}
+use Rattle.runs.specs.declared.event.Report.{Report}
 use Rattle.speaker.proofs.Events.{holds_ticked}
 use Rattle.speaker.proofs.TimerEnds.{report_ticked, ticks}
 use Rattle.speaker.proofs.step.Speaker.tick.Goals as goal

@@ -1,7 +1,7 @@
 use Rattle.std.proofs.Common.{◌≡◌, ◌∙◌, ap}
 use Rattle.std.specs.Option.{option_map}
 use Rattle.bgp_fsm.specs.Transports.{transport_of}
-use Rattle.routes.specs.Linked.{Linked}
+use Rattle.routing.specs.Linked.{Linked}
 use Rattle.speaker.specs.Shown.{transport_at}
 use Rattle.speaker.proofs.step.Speaker.transport_to.Goals as goal
 

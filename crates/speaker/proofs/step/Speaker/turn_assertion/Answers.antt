@@ -1,7 +1,7 @@
 use Rattle.std.proofs.Common.{◌∙◌, ap, refl, sym}
 use Rattle.std.specs.Result.{result_ok}
 use Rattle.bgp_conf.proofs.Assertions.{asserted_of-answer}
-use Rattle.routes.specs.RoutesState.{RoutesState}
+use Rattle.routing.specs.RoutesState.{RoutesState}
 use Rattle.speaker.proofs.ExceptionCommands.{assertion_accepted, assertion_excepts, holds_excepted, none_unless_ok}
 use Rattle.speaker.proofs.step.Speaker.turn_assertion.Goals as goal
 

@@ -1,5 +1,5 @@
 use Rattle.std.proofs.Common.{ap, refl, sym}
-use Rattle.routes.specs.RoutesState.{RoutesState}
+use Rattle.routing.specs.RoutesState.{RoutesState}
 use Rattle.speaker.proofs.ExceptionCommands.{filter_excepts, holds_excepted}
 use Rattle.speaker.proofs.step.Speaker.turn_filter.Goals as goal
 

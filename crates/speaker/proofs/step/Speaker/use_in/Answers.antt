@@ -1,5 +1,5 @@
 use Rattle.std.proofs.Common.{refl, ap}
-use Rattle.routes.specs.RoutesState.{RoutesState}
+use Rattle.routing.specs.RoutesState.{RoutesState}
 use Rattle.routes.proofs.PutSlots.{slot_used}
 use Rattle.speaker.proofs.Commands.{holds_used}
 use Rattle.speaker.proofs.RoutesSeen.{made_of}

@@ -2,7 +2,7 @@ use Rattle.speaker.specs.Export.{export_to}
 use Rattle.speaker.specs.Serving.{HasRoomAt}
 use Rattle.rib_out.specs.Held.{held_at}
 use Rattle.speaker.proofs.Owing.{withdrawn_parts}
-use Rattle.routes.proofs.Places.{left-smaller}
+use Rattle.routing.proofs.Places.{left-smaller}
 use Rattle.speaker.proofs.Serving.{served_by, Walks-withdrawn}
 use Rattle.speaker.proofs.step.Speaker.withdraw_all.Goals as goal
 

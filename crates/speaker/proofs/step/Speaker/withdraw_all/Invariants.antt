@@ -1,7 +1,7 @@
 use Rattle.speaker.specs.Export.{export_to}
 use Rattle.speaker.specs.Serving.{IsGone}
 use Rattle.speaker.proofs.Serving.{Walks}
-use Rattle.routes.proofs.Places.{left_above}
+use Rattle.routing.proofs.Places.{left_above}
 use Rattle.speaker.proofs.step.Speaker.withdraw_all.Given as goal
 
 abbrev pub invariant-loop-prefix : goal.invariant-loop-prefix

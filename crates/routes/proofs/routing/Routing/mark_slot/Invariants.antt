@@ -1,9 +1,0 @@
-use Rattle.routes.proofs.Marking.{SlotUpTo}
-use Rattle.routes.proofs.Places.{left_above}
-use Rattle.routes.proofs.routing.Routing.mark_slot.Given as goal
-
-abbrev pub invariant-loop-prefix : goal.invariant-loop-prefix
-invariant-loop-prefix g l = SlotUpTo l.fn.conf l.fn.links.entries l.fn.slot l.fn.self l.after l.self
-
-abbrev pub decreases-loop-prefix : goal.decreases-loop-prefix
-decreases-loop-prefix g l = left_above l.after

@@ -1,9 +1,0 @@
-use Rattle.decision.specs.BookContents.{rows_of}
-use Rattle.routes.specs.Export.{export_in}
-use Rattle.routes.specs.Tables.{best_at}
-use Rattle.routes.proofs.WaitingLists.{differing_rises}
-use Rattle.routes.proofs.waiting.Waiting.new.Goals as goal
-
-pub returns-clause-rising : goal.returns-clause-rising
-returns-clause-rising g c =
-    differing_rises c.link.inside.adj_out (export_in c.args.conf.now (best_at (rows_of c.args.ribs.now.book)) c.args.ribs.now.adj_in c.args.peer) c.new.result c.new.ensures.rising

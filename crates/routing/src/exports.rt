@@ -1,0 +1,99 @@
+//! What is exported of a prefix to a peer (RFC 4271 section 9.1.3).
+ghost use Rattle.std.specs.Prelude.{◌≡◌, ◌≤◌, ◌<◌, ◌^◌, length};
+ghost use Rattle.std.specs.Bool.{OnTrue};
+ghost use Rattle.std.specs.Option.{option_map};
+ghost use Rattle.bgp_conf.specs.Configuration.{peer_at};
+ghost use Rattle.decision.specs.BookContents.{rows_of};
+ghost use Rattle.export_rules.specs.Export.{Tells, most_attributes};
+ghost use Rattle.routing.specs.Export.{IsAccepted, export_in, export_peer_of, received_from, selected_of};
+ghost use Rattle.routing.specs.Places.{rank_of};
+ghost use Rattle.routing.specs.Tables.{best_at};
+
+use crate::candidates::origin;
+use arrayvec::ArrayVec;
+use bgp_attr::Attrs;
+use bgp_conf::{Conf, SeenRoute};
+use bgp_msg::MAX_MESSAGE;
+use decision::{Book, Candidate, LOCAL_SLOT};
+use export_rules::{ExportPeer, export_of};
+use loc_rib::Ribs;
+use net_prefix::{Asn, Prefix};
+use std::alloc::Allocator;
+
+/// The octets of one message, or of its attributes.
+pub type Octets = ArrayVec<u8, MAX_MESSAGE>;
+
+/// What the export to a slot's peer asks of it.
+pub fn export_peer<A: Allocator + Clone>(conf: &Conf<A>, slot: u8) -> Option<ExportPeer>
+    ensures { result ≡ option_map (export_peer_of conf.now slot) (peer_at conf.now slot) }
+{
+    let peer = conf.peer(slot)?;
+    Some(ExportPeer {
+        slot,
+        own: conf.own(),
+        asn: peer.asn,
+        local: peer.local,
+    })
+}
+
+/// What is exported of a prefix: the best route, where there is one and it is exported to this peer, by its export policy.
+/// Answers false where nothing is; `octets` are then empty.
+#[tactic(auto, using(crate::proofs::Exported::on_accepted))]
+pub fn export<A: Allocator + Clone, B: Book<A>>(
+    conf: &Conf<A>,
+    ribs: &Ribs<A, B>,
+    peer: &ExportPeer,
+    prefix: Prefix,
+    octets: &mut Octets,
+) -> bool
+    ensures tells { Tells result octets.new.items (export_in conf.now (best_at (rows_of ribs.now.book)) ribs.now.adj_in peer.now prefix) }
+    ensures small { OnTrue result (length octets.new.items ≤ most_attributes) }
+    // The peer finds no fault with it.
+    ensures accepted { OnTrue result (IsAccepted (rows_of ribs.now.book) ribs.now.adj_in peer.now prefix octets.new.items) }
+{
+    octets.clear();
+    let Some(route) = ribs.best(prefix) else {
+        return false;
+    };
+    let Some(attrs) = ribs.routes().get(route.slot, prefix) else {
+        return false;
+    };
+    let action = conf.export(peer.slot, &seen(conf.own(), prefix, &route, attrs));
+    export_of(&route, attrs, peer, action, octets)
+}
+
+// The best route of a prefix as export policies see it: as it was received.
+fn seen<'a, A: Allocator + Clone>(
+    own: Asn,
+    prefix: Prefix,
+    route: &Candidate,
+    attrs: &'a Attrs<A>,
+) -> SeenRoute<'a, A>
+    ensures { result ≡ selected_of own prefix route.now attrs.now }
+{
+    SeenRoute {
+        prefix,
+        state: route.validity,
+        origin: origin(own, attrs),
+        path: attrs.as_path(),
+        from: received_from(route.slot),
+    }
+}
+
+// The slot whose peer announced a route; none of a local network.
+fn received_from(slot: u8) -> Option<u8>
+    ensures { result ≡ received_from slot }
+{
+    if slot == LOCAL_SLOT {
+        return None;
+    }
+    Some(slot)
+}
+
+/// The place of a prefix among all prefixes: they are ordered by address, then by length.
+pub fn place(prefix: Prefix) -> u64
+    ensures place { result ≡ rank_of prefix }
+    ensures below { result < 2 ^ 38 }
+{
+    u64::from(prefix.bits) * 64 + u64::from(prefix.len)
+}

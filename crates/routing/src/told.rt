@@ -1,0 +1,91 @@
+//! The UPDATEs by which a peer is told of prefixes (RFC 4271 section 4.3).
+ghost use Rattle.std.specs.Prelude.{◌≡◌, ◌≢◌, ◌≤◌, ◌<◌, ◌+◌, ◌^◌, All, true, false, None, Some, OnErr, OnOk, length, if◌then◌else◌};
+ghost use Rattle.std.specs.Bool.{OnFalse, OnTrue};
+ghost use Rattle.bgp_fsm.specs.declared.state.State.TheVariants.{Established};
+ghost use Rattle.bgp_msg.specs.MessageSpelling.{wire_form};
+ghost use Rattle.net_prefix.specs.declared.prefix.Prefix.{Prefix as ThePrefix};
+ghost use Rattle.rib_out.specs.Held.{asked_at, held_at, is_among};
+ghost use Rattle.routing.specs.Packing.{most_named};
+ghost use Rattle.routing.specs.Places.{rank_of};
+ghost use Rattle.routing.specs.Told.{HasRoom, IsTold, update_saying};
+
+use crate::exports::Octets;
+use crate::link::Link;
+use bgp_msg::{write_announcement, write_withdrawal};
+use net_prefix::Prefix;
+use rib_out::{AdjOut, RecentOctets, UndoLog};
+use std::alloc::{AllocError, Allocator};
+
+/// Tells an Established peer that these prefixes are withdrawn: an UPDATE of it is queued, and the peer doesn't hold them
+/// any more. The UPDATE is written to `message`.
+pub fn withdraw<A: Allocator + Clone>(link: &mut Link<A>, named: &[Prefix], message: &mut Octets)
+    requires established { link.old.peer.session.state ≡ Established }
+    requires room { HasRoom link.old }
+    requires places { All (λ p. rank_of p < 2 ^ 38) named.now }
+    requires fits { length (wire_form named.now) ≤ most_named }
+    ensures told { IsTold named.now None link.old link.new }
+    ensures message { message.new.items ≡ update_saying named.now None }
+{
+    link.adj_out.withdraw_all(named);
+    write_withdrawal(named, message);
+    link.peer.queue(message.as_slice());
+}
+
+/// Tells an Established peer the attributes of these prefixes: an UPDATE of them is queued, and the peer holds them. Memory
+/// is taken only where it holds others, and where that is refused, nothing changes. The UPDATE is written to `message`.
+pub fn announce<A: Allocator + Clone>(
+    link: &mut Link<A>,
+    recent: &mut RecentOctets<A>,
+    undo: &mut UndoLog<A>,
+    named: &[Prefix],
+    octets: &Octets,
+    message: &mut Octets,
+) -> Result<(), AllocError>
+    requires established { link.old.peer.session.state ≡ Established }
+    requires room { HasRoom link.old }
+    requires places { All (λ p. rank_of p < 2 ^ 38) named.now }
+    requires fits { length octets.now.items + length (wire_form named.now) ≤ most_named }
+    ensures told { OnOk result (IsTold named.now (Some octets.now.items) link.old link.new) }
+    ensures message { OnOk result (message.new.items ≡ update_saying named.now (Some octets.now.items)) }
+    ensures err { OnErr result (link.new ≡ link.old) }
+    ensures others { OnErr result ((q : ThePrefix) × (is_among q named.now ≡ true) × (held_at link.old.adj_out q ≢ Some octets.now.items)) }
+{
+    hold(&mut link.adj_out, recent, undo, named, octets)?;
+    write_announcement(octets.as_slice(), named, message);
+    link.peer.queue(message.as_slice());
+    Ok(())
+}
+
+// The peer holds these octets of all these prefixes, and has asked for none of them again.
+fn hold<A: Allocator + Clone>(
+    adj_out: &mut AdjOut<A>,
+    recent: &mut RecentOctets<A>,
+    undo: &mut UndoLog<A>,
+    named: &[Prefix],
+    octets: &Octets,
+) -> Result<(), AllocError>
+    ensures held { OnOk result ((q : ThePrefix) → held_at adj_out.new q ≡ (if is_among q named.now then Some octets.now.items else held_at adj_out.old q)) }
+    ensures asked { OnOk result ((q : ThePrefix) → asked_at adj_out.new q ≡ (if is_among q named.now then false else asked_at adj_out.old q)) }
+    ensures err { OnErr result (adj_out.new ≡ adj_out.old) }
+    ensures others { OnErr result ((q : ThePrefix) × (is_among q named.now ≡ true) × (held_at adj_out.old q ≢ Some octets.now.items)) }
+{
+    if holds_all(adj_out, named, octets) {
+        adj_out.renew_all(named);
+        return Ok(());
+    }
+    let held = recent.shared(octets.as_slice())?;
+    adj_out.announce_all(named, &held, undo)
+}
+
+// Whether the peer holds just these octets of all these prefixes.
+fn holds_all<A: Allocator + Clone>(adj_out: &AdjOut<A>, named: &[Prefix], octets: &Octets) -> bool
+    ensures all { OnTrue result ((q : ThePrefix) → is_among q named.now ≡ true → held_at adj_out.now q ≡ Some octets.now.items) }
+    ensures one { OnFalse result ((q : ThePrefix) × (is_among q named.now ≡ true) × (held_at adj_out.now q ≢ Some octets.now.items)) }
+{
+    for prefix in named {
+        if !adj_out.holds(*prefix, octets.as_slice()) {
+            return false;
+        }
+    }
+    true
+}

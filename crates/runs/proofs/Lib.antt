@@ -1,0 +1,13 @@
+pub mod SentPrefixes
+pub mod Histories
+pub mod SlotStates
+pub mod PeerRoutes
+pub mod KnownPrefixes
+pub mod SlotEvents
+pub mod SlotOctets
+pub mod QueuedUpdates
+pub mod Refreshing
+pub mod Coming
+pub mod OtherSessions
+pub mod Moments
+pub mod Touches

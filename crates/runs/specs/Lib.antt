@@ -1,0 +1,13 @@
+pub mod Queueing
+pub mod SpeakerState
+pub mod AdjRibIn
+pub mod Held
+pub mod Refreshes
+pub mod SlotTimes
+pub mod Runs
+pub mod Agreement
+pub mod FirstRefusal
+pub mod Played
+pub mod Waiting
+pub mod Choices
+pub mod Concerned
