@@ -11,7 +11,7 @@ use Rattle.prefix_trie.specs.TrieMap.{IsRising, Updates, found, with_entry, with
 use Rattle.prefix_trie.proofs.EntryLists.{rising_with}
 use Rattle.prefix_trie.proofs.MapLaws.{found-same, found-with_entry, found-without}
 use Rattle.rib_out.specs.Held.{is_prefix}
-use Rattle.rib_out.specs.Waiting.{IsSet, count_owed, is_known, owed_at, owed_by}
+use Rattle.rib_out.specs.Waiting.{IsReplaced, IsSet, count_owed, is_known, owed_at, owed_by}
 use Rattle.rib_out.specs.declared.marks.Owed.{Owed}
 use Rattle.rib_out.specs.declared.waits.Waits.{Waits}
 
@@ -74,6 +74,19 @@ module _ (slot : ℕ) (owed : Option Owed) (old new : List (Prefix × Waits)) (p
   is_known-set q =
       ap (λ (es : List (Prefix × Waits)). is_known es q) h.entries ∙ is_known-with_entry old p q h.after
       ∙ known_case (is_prefix p q) (is_known old q) (λ same. ap is_some (found-same old p q same ∙ h.there))
+
+module _ (waits : Waits) (old new : List (Prefix × Waits)) (p : Prefix) (h : IsReplaced waits old new p) where
+  pub rising_replaced : IsRising old → IsRising new
+  rising_replaced rising = subst (λ (es : List (Prefix × Waits)). IsRising es) (sym h.entries) (rising_with p h.after old rising)
+
+  pub owed_at-replaced : (s : ℕ) (q : Prefix) → owed_at new s q ≡ cond (is_prefix p q) (owed_by waits s) (owed_at old s q)
+  owed_at-replaced s q =
+      ap (λ (es : List (Prefix × Waits)). owed_at es s q) h.entries ∙ owed_at-with_entry old p q h.after s ∙ ap (λ (o : Option Owed). cond (is_prefix p q) o (owed_at old s q)) (h.same s)
+
+  pub is_known-replaced : (q : Prefix) → is_known new q ≡ is_known old q
+  is_known-replaced q =
+      ap (λ (es : List (Prefix × Waits)). is_known es q) h.entries ∙ is_known-with_entry old p q h.after
+      ∙ known_case (is_prefix p q) (is_known old q) (λ same. ap is_some (found-same old p q same) ∙ h.known)
 
 -- behind a change to nothing, something waits of one prefix fewer
 pub count_owed-set : (slot : ℕ) (old new : List (Prefix × Waits)) (p : Prefix) (h : IsSet slot None old new p) → IsRising old → is_some (owed_by h.before slot) ≡ true → count_owed new slot + 1 ≡ count_owed old slot

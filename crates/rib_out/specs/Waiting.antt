@@ -1,5 +1,5 @@
 -- What waits of each known prefix for each peer's slot (own): a withdrawal of it, an announcement of it, or nothing.
-use Rattle.std.specs.Prelude.{ℕ, ◌≡◌, ◌≢◌, ◌==◌, Bool, List, Option, None, Some, is_some, ◌||◌, if◌then◌else◌}
+use Rattle.std.specs.Prelude.{ℕ, ◌≡◌, ◌≢◌, ◌==◌, Bool, List, Option, None, Some, is_some, ◌||◌, true, if◌then◌else◌}
 use Rattle.std.specs.List.{sum_by}
 use Rattle.std.specs.Map.{values_of}
 use Rattle.std.specs.Option.{option_and_then}
@@ -38,6 +38,13 @@ pub record IsSet (slot : ℕ) (owed : Option Owed) (old new : List (Prefix × Wa
   pub after : Waits
   pub there : found old prefix ≡ Some before
   pub changed : (s : ℕ) → owed_by after s ≡ (if s == slot then owed else owed_by before s)
+  pub entries : new ≡ with_entry old prefix after
+
+-- what waits of a known prefix was replaced by this for each slot, and nothing else
+pub record IsReplaced (waits : Waits) (old new : List (Prefix × Waits)) (prefix : Prefix) : Type 0 where
+  pub after : Waits
+  pub same : (s : ℕ) → owed_by after s ≡ owed_by waits s
+  pub known : is_known old prefix ≡ true
   pub entries : new ≡ with_entry old prefix after
 
 -- nothing changed but what waits for one slot

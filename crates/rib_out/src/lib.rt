@@ -34,3 +34,4 @@ pub use shared::{RecentOctets, SharedOctets};
 pub use slots::Slots;
 pub use undo::UndoLog;
 pub use waiting::Waiting;
+pub use waits::Waits;

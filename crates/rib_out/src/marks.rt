@@ -11,7 +11,7 @@ pub enum Owed {
 
 /// The slots that a withdrawal waits for, and those that an announcement waits for.
 #[derive(Clone, Copy)]
-pub(crate) struct Marks {
+pub struct Marks {
     pub(crate) withdrawals: u64,
     pub(crate) announcements: u64,
 }

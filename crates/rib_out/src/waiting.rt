@@ -6,7 +6,7 @@ ghost use Rattle.net_prefix.specs.PrefixOrder.{prefix_cmp, IsAbove};
 ghost use Rattle.rib_out.specs.Held.{is_prefix};
 ghost use Rattle.rib_out.specs.Slots.{has_slot};
 ghost use Rattle.rib_out.specs.declared.marks.Owed.TheVariants.{Announcement};
-ghost use Rattle.rib_out.specs.Waiting.{IsOfSlot, IsSet, count_owed, is_known, owed_at, owed_by};
+ghost use Rattle.rib_out.specs.Waiting.{IsOfSlot, IsReplaced, IsSet, count_owed, is_known, owed_at, owed_by};
 
 use crate::marks::Owed;
 use crate::slots::Slots;
@@ -93,6 +93,15 @@ impl<A: Allocator> Waiting<A> {
         ensures known { (p : Prefix) → is_known self.new p ≡ is_known self.old p }
     {
         mark(&mut self.records, slot, prefix, owed);
+    }
+
+    /// Just this waits of a known prefix for each slot from now on. It takes no memory.
+    pub fn put(&mut self, prefix: Prefix, waits: Waits)
+        requires { is_known self.old prefix ≡ true }
+        ensures owed { (s : ℕ) (p : Prefix) → owed_at self.new s p ≡ (if is_prefix prefix p then owed_by waits s else owed_at self.old s p) }
+        ensures known { (p : Prefix) → is_known self.new p ≡ is_known self.old p }
+    {
+        replace(&mut self.records, prefix, waits);
     }
 
     /// What waits of the prefix for the slot.
@@ -201,6 +210,19 @@ fn mark<A: Allocator>(records: &mut Trie<Waits, A>, slot: u8, prefix: Prefix, ow
         ensures { (s : ℕ) → owed_by waits.new s ≡ (if s == slot then owed else owed_by waits.old s) }
     {
         waits.set(slot, owed);
+    };
+    records.update(&prefix, change);
+}
+
+// Puts this in the place of what waits of a known prefix.
+fn replace<A: Allocator>(records: &mut Trie<Waits, A>, prefix: Prefix, waits: Waits)
+    requires { is_known records.old prefix ≡ true }
+    ensures { IsReplaced waits records.old records.new prefix }
+{
+    let change = |record: &mut Waits|
+        ensures { (s : ℕ) → owed_by record.new s ≡ owed_by waits s }
+    {
+        *record = waits;
     };
     records.update(&prefix, change);
 }

@@ -5,9 +5,9 @@ use crate::marks::{Marks, Owed};
 use crate::slots::{self, Slots};
 use prefix_trie::Marked;
 
-/// The marks of one prefix: for a slot waits a withdrawal of it, or an announcement, or nothing.
+/// What waits of one prefix for each slot: a withdrawal of it, an announcement, or nothing.
 #[derive(Clone, Copy)]
-pub(crate) struct Waits {
+pub struct Waits {
     marks: Marks,
     pub ghost never_both: { bit_and marks.withdrawals marks.announcements ≡ 0 },
 }
@@ -29,7 +29,7 @@ impl Waits {
     ghost use Rattle.rib_out.specs.declared.waits.Waits.{Waits};
 
     /// For no slot waits anything.
-    pub(crate) fn for_none() -> Self
+    pub fn for_none() -> Self
         ensures { (s : ℕ) → owed_by result s ≡ None }
     {
         Waits {
@@ -41,7 +41,7 @@ impl Waits {
     }
 
     /// Whether nothing waits for any slot.
-    pub(crate) fn is_idle(&self) -> bool
+    pub fn is_idle(&self) -> bool
         ensures idle { IsTrue result → (s : ℕ) → owed_by self.now s ≡ None }
         ensures few { ((s : ℕ) → s < 64 → owed_by self.now s ≡ None) → IsTrue result }
     {
@@ -72,7 +72,7 @@ impl Waits {
     }
 
     /// What waits for the slot from now on.
-    pub(crate) fn set(&mut self, slot: u8, owed: Option<Owed>)
+    pub fn set(&mut self, slot: u8, owed: Option<Owed>)
         requires { slot < 64 }
         ensures { (s : ℕ) → owed_by self.new s ≡ (if s == slot then owed else owed_by self.old s) }
     {

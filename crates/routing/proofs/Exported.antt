@@ -1,6 +1,6 @@
-use Rattle.std.proofs.Common.{◌≡◌, ◌≤◌, inl, inr, ℕ, Bool, true, false, nat_le, List, Option, Some, None, length, cond, refl}
+use Rattle.std.proofs.Common.{◌≡◌, ◌≤◌, inl, inr, ℕ, Bool, true, false, nat_le, List, Option, Some, None, length, cond, refl, sym, ap, ◌∙◌}
 use Rattle.std.specs.Bool.{OnTrue}
-use Rattle.std.specs.Option.{option_and_then, MatchOption}
+use Rattle.std.specs.Option.{option_and_then, option_map, MatchOption}
 use Rattle.std.proofs.lemmas.Bool.{leb-true}
 use Rattle.bgp_attr.specs.AttributeSpelling.{attributes_spelling}
 use Rattle.bgp_attr.specs.PathAttributes.{PathAttributes}
@@ -13,7 +13,7 @@ use Rattle.export_rules.specs.declared.export.ExportPeer.{ExportPeer}
 use Rattle.net_prefix.specs.declared.prefix.Prefix.{Prefix}
 use Rattle.rib_in.specs.LatestRoutes.{RouteTable, route_at}
 use Rattle.routing.specs.Candidates.{IsCandidate}
-use Rattle.routing.specs.Export.{IsAccepted, IsExport, export_in, exported_at, selected_of}
+use Rattle.routing.specs.Export.{IsAccepted, IsExport, chosen_in, export_in, exported_at, selected_of}
 use Rattle.bgp_conf.specs.PeerPolicies.{export_action}
 use Rattle.policy.specs.declared.rule.Action.{Action}
 use Rattle.policy.specs.declared.rule.Action.TheVariants.{Reject, Accept}
@@ -62,9 +62,23 @@ pub best_short : (conf : Configuration) (adj_in : RouteTable) (peer : ExportPeer
 best_short conf adj_in peer prefix None a is = absurd (cc)
 best_short conf adj_in peer prefix (Some c) a is = found_short conf c peer prefix (route_at adj_in c.slot prefix) a is
 
--- what is written of the best route is good to the peer
-pub on_accepted : (b : Bool) (loc_rib : List (Prefix × Candidate)) (adj_in : RouteTable) (peer : ExportPeer) (p : Prefix) (octets : List ℕ) (c : Candidate) (attrs : PathAttributes)
-    → best_at loc_rib p ≡ Some c → route_at adj_in c.slot p ≡ Some attrs → OnTrue b (IsSender peer → IsComplete c attrs → AreAccepted (kind_between peer.asn peer.own) octets)
+-- the best route, with the attributes that it came with
+pub chosen_parts : (o : Option Candidate) (route : ℕ → Option PathAttributes) (chosen : Candidate × PathAttributes)
+    → Some chosen ≡ option_and_then (λ (c : Candidate). option_map (λ attrs. (c, attrs)) (route c.slot)) o → (o ≡ Some chosen.0) × (route chosen.0.slot ≡ Some chosen.1)
+chosen_parts None route chosen is = absurd (cc)
+chosen_parts (Some c) route chosen is = by_route (route c.slot) refl is
+  where
+    by_route : (found : Option PathAttributes) → route c.slot ≡ found → Some chosen ≡ option_map (λ attrs. (c, attrs)) found → (Some c ≡ Some chosen.0) × (route chosen.0.slot ≡ Some chosen.1)
+    by_route None found is = absurd (cc)
+    by_route (Some attrs) found is =
+        let same : chosen ≡ (c, attrs) = cc in
+        (sym (ap (λ (e : Candidate × PathAttributes). Some e.0) same), ap (λ (e : Candidate × PathAttributes). route e.0.slot) same ∙ found ∙ sym (ap (λ (e : Candidate × PathAttributes). Some e.1) same))
+
+-- what is written of it is good to the peer
+pub chosen_accepted : (b : Bool) (loc_rib : List (Prefix × Candidate)) (adj_in : RouteTable) (peer : ExportPeer) (p : Prefix) (octets : List ℕ) (chosen : Candidate × PathAttributes)
+    → Some chosen ≡ chosen_in (best_at loc_rib) adj_in p → OnTrue b (IsSender peer → IsComplete chosen.0 chosen.1 → AreAccepted (kind_between peer.asn peer.own) octets)
     → OnTrue b (IsAccepted loc_rib adj_in peer p octets)
-on_accepted true loc_rib adj_in peer p octets c attrs best route good = λ sender complete. good sender (complete c attrs best route)
-on_accepted false loc_rib adj_in peer p octets c attrs best route good = tt
+chosen_accepted true loc_rib adj_in peer p octets chosen is good =
+    let parts = chosen_parts (best_at loc_rib p) (λ slot. route_at adj_in slot p) chosen is in
+    λ sender complete. good sender (complete chosen.0 chosen.1 parts.0 parts.1)
+chosen_accepted false loc_rib adj_in peer p octets chosen is good = tt

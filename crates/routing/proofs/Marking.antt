@@ -15,7 +15,7 @@ use Rattle.net_prefix.specs.declared.prefix.Prefix.{Prefix}
 use Rattle.rib_in.specs.LatestRoutes.{RouteTable, is_route, route_at}
 use Rattle.rib_out.specs.Alike.{AlikeState, IsListed}
 use Rattle.rib_out.specs.Held.{asked_at, held_at}
-use Rattle.rib_out.specs.Waiting.{is_known, owed_at}
+use Rattle.rib_out.specs.Waiting.{is_known, owed_at, owed_by}
 use Rattle.rib_out.specs.declared.marks.Owed.{Owed}
 use Rattle.rib_out.specs.declared.marks.Owed.TheVariants.{Announcement}
 use Rattle.rib_out.specs.declared.waits.Waits.{Waits}
@@ -66,7 +66,7 @@ pub lists_stay : (t u : RoutingState) → u ≡ record t { waiting = u.waiting }
 lists_stay t u rest s o p listed = subst (λ a. IsListed a s o p) (sym (ap (λ (x : RoutingState). x.alike) rest)) listed
 
 -- without a slot nothing is owed
-mark_unlinked_of : (conf : Configuration) (adj_in : RouteTable) (book : BookState) (slot : ℕ) (p : Prefix) (peer : Option ConfiguredPeer) → mark_of conf adj_in book slot p peer None ≡ no_mark
+pub mark_unlinked_of : (conf : Configuration) (adj_in : RouteTable) (book : BookState) (slot : ℕ) (p : Prefix) (peer : Option ConfiguredPeer) → mark_of conf adj_in book slot p peer None ≡ no_mark
 mark_unlinked_of conf adj_in book slot p None = refl
 mark_unlinked_of conf adj_in book slot p (Some peer) = refl
 
@@ -206,15 +206,11 @@ pub no_links : (links : List (ℕ × Linked)) (s : ℕ) → (0 < length links �
 no_links [] s none = refl
 no_links (l ∷ links) s none = absurd (none (omega arith))
 
--- the slots below this one have been looked at
-pub record MarkedBelow (prefix : Prefix) (conf : Configuration) (links : List (ℕ × Linked)) (first : RoutingState) (n : ℕ) (t : RoutingState) : Type 0 where
+-- each slot has been looked at
+pub record MarkedAnew (prefix : Prefix) (conf : Configuration) (links : List (ℕ × Linked)) (first t : RoutingState) : Type 0 where
   pub rest : KeepsTables first t
   pub but : AreMarkedBut prefix conf links t
-  pub known : is_known t.waiting prefix ≡ true
-  pub below : (slot : ℕ) → slot < n → slot < 64 → IsMarked (mark_at conf links t slot prefix) t slot prefix
-
-pub MarkedBelow-none : (prefix : Prefix) (conf : Configuration) (links : List (ℕ × Linked)) (t : RoutingState) → AreMarkedBut prefix conf links t → is_known t.waiting prefix ≡ true → MarkedBelow prefix conf links t 0 t
-MarkedBelow-none prefix conf links t but known = record { rest = refl; but = but; known = known; below = λ slot under. absurd (omega (arith, under)) }
+  pub here : (slot : ℕ) → slot < 64 → IsMarked (mark_at conf links t slot prefix) t slot prefix
 
 -- what is owed of the prefix to one slot's peer is marked, and listed where it is announced
 pub record Marks (slot : ℕ) (prefix : Prefix) (conf : Configuration) (links : List (ℕ × Linked)) (t u : RoutingState) : Type 0 where
@@ -255,29 +251,88 @@ none_still slot prefix conf links t u m s p unlinked was = by_test (s == slot) r
     by_test true slots false prefixes = m.others s p (ap (λ a. a && is_prefix prefix p) slots ∙ prefixes) ∙ was
     by_test false slots b prefixes = m.others s p (ap (λ a. a && is_prefix prefix p) slots) ∙ was
 
--- the next slot
-pub MarkedBelow-more : (prefix : Prefix) (conf : Configuration) (links : List (ℕ × Linked)) (first t u : RoutingState) (n : ℕ) → MarkedBelow prefix conf links first n t → Marks n prefix conf links t u → MarkedBelow prefix conf links first (n + 1) u
-MarkedBelow-more prefix conf links first t u n h m = record {
-  rest = m.rest ∙ ap (λ (x : RoutingState). record x { waiting = u.waiting; alike = u.alike }) h.rest;
+-- these are the marks of the prefix, and what is announced is listed
+pub record AreListed (prefix : Prefix) (mark : ℕ → Mark) (waits : Waits) (old new : AlikeState) : Type 0 where
+  pub owed : (s : ℕ) → s < 64 → owed_by waits s ≡ (mark s).owed
+  pub here : (s : ℕ) → s < 64 → owed_by waits s ≡ Some Announcement → IsListed new s (mark s).octets prefix
+  pub listed : (s : ℕ) (o : List ℕ) (p : Prefix) → IsListed old s o p → IsListed new s o p
+
+-- they were put in the place of what waited
+pub put_anew : (prefix : Prefix) (conf : Configuration) (links : List (ℕ × Linked)) (t u : RoutingState) (waits : Waits) → AreMarkedBut prefix conf links t
+    → AreListed prefix (λ s. mark_at conf links t s prefix) waits t.alike u.alike → KeepsTables t u
+    → ((s : ℕ) (p : Prefix) → owed_at u.waiting s p ≡ cond (is_prefix prefix p) (owed_by waits s) (owed_at t.waiting s p)) → ((p : Prefix) → is_known u.waiting p ≡ is_known t.waiting p) → MarkedAnew prefix conf links t u
+put_anew prefix conf links t u waits but lists rest owed known = record {
+  rest = rest;
   but = record {
-    there = known_of_rest links t u h.but.there m.rest (λ s p there. m.known p);
-    released = λ p other. released_alike t u p (h.but.released p other) (routes_of_rest t u p m.rest) (λ s few. m.others s p (off_prefix_of (s == n) (is_prefix prefix p) other)) (m.known p);
-    marks = λ slot p within other. marked_off n prefix conf links t u m slot p (off_prefix_of (slot == n) (is_prefix prefix p) other) (h.but.marks slot p within other);
-    none = λ slot within unlinked. none_still n prefix conf links t u m slot prefix unlinked (h.but.none slot within unlinked);
+    there = known_of_rest links t u but.there rest (λ s p there. known p);
+    released = λ p other. released_alike t u p (but.released p other) (routes_of_rest t u p rest) (λ s few. owed_off s p other) (known p);
+    marks = λ slot p within other. marked_still _ _ t u slot p (but.marks slot p within other) (owed_off slot p other) (λ o waits. lists.listed slot o p) (sym (marks_of_rest conf links t u slot p rest));
+    none = λ slot within unlinked. owed_on slot ∙ lists.owed slot within ∙ ap (λ (m : Mark). m.owed) (mark_unlinked conf links t slot prefix unlinked);
   };
-  known = m.known prefix ∙ h.known;
-  below = λ slot under within. elim (cases_eq slot n) [
-    | inl same ↦
-        subst (λ x. IsMarked (mark_at conf links u x prefix) u x prefix) (sym same) (marked_on n prefix conf links t u m (λ none. h.but.none n (subst (λ x. x < 64) same within) none))
-    | inr other ↦ marked_off n prefix conf links t u m slot prefix (off_slot n slot (is_prefix prefix prefix) other) (h.below slot (omega (arith, under, other)) within)
+  here = λ slot within. marked_as _ _ u slot prefix (sym (marks_of_rest conf links t u slot prefix rest)) (record {
+    waits = owed_on slot ∙ lists.owed slot within;
+    listed = λ announced. lists.here slot within (lists.owed slot within ∙ announced);
+  });
+}
+  where
+    owed_off : (s : ℕ) (p : Prefix) → is_prefix prefix p ≡ false → owed_at u.waiting s p ≡ owed_at t.waiting s p
+    owed_off s p other = owed s p ∙ ap (λ b. cond b (owed_by waits s) (owed_at t.waiting s p)) other
+
+    owed_on : (s : ℕ) → owed_at u.waiting s prefix ≡ owed_by waits s
+    owed_on s = owed s prefix ∙ ap (λ b. cond b (owed_by waits s) (owed_at t.waiting s prefix)) (is_prefix-refl prefix)
+
+-- the slots below this one have been listed
+pub record ListedBelow (prefix : Prefix) (mark : ℕ → Mark) (n : ℕ) (waits : Waits) (old new : AlikeState) : Type 0 where
+  pub owed : (s : ℕ) → s < n → owed_by waits s ≡ (mark s).owed
+  pub here : (s : ℕ) → s < n → owed_by waits s ≡ Some Announcement → IsListed new s (mark s).octets prefix
+  pub later : (s : ℕ) → n ≤ s → owed_by waits s ≡ None
+  pub listed : (s : ℕ) (o : List ℕ) (p : Prefix) → IsListed old s o p → IsListed new s o p
+
+pub ListedBelow-none : (prefix : Prefix) (mark : ℕ → Mark) (waits : Waits) (alike : AlikeState) → ((s : ℕ) → owed_by waits s ≡ None) → ListedBelow prefix mark 0 waits alike alike
+ListedBelow-none prefix mark waits alike none = record {
+  owed = λ s under. absurd (omega (arith, under));
+  here = λ s under. absurd (omega (arith, under));
+  later = λ s high. none s;
+  listed = λ s o p listed. listed;
+}
+
+pub ListedBelow-more : (prefix : Prefix) (mark : ℕ → Mark) (n : ℕ) (waits after : Waits) (first old new : AlikeState) (owed : Option Owed) → ListedBelow prefix mark n waits first old
+    → ((s : ℕ) (o : List ℕ) (p : Prefix) → IsListed old s o p → IsListed new s o p) → owed ≡ (mark n).owed → (owed ≡ Some Announcement → IsListed new n (mark n).octets prefix)
+    → ((s : ℕ) → owed_by after s ≡ cond (s == n) owed (owed_by waits s)) → ListedBelow prefix mark (n + 1) after first new
+ListedBelow-more prefix mark n waits after first old new owed h lists is listed set = record {
+  owed = λ s under. elim (cases_eq s n) [
+    | inl same ↦ subst (λ x. owed_by after x ≡ (mark x).owed) (sym same) (set_on ∙ is)
+    | inr other ↦ set_off s other ∙ h.owed s (omega (arith, under, other))
   ];
+  here = λ s under announced. elim (cases_eq s n) [
+    | inl same ↦ subst (λ x. IsListed new x (mark x).octets prefix) (sym same) (listed (sym set_on ∙ ap (λ x. owed_by after x) (sym same) ∙ announced))
+    | inr other ↦ lists s _ prefix (h.here s (omega (arith, under, other)) (sym (set_off s other) ∙ announced))
+  ];
+  later = λ s high. set_off s (λ same. absurd (omega (arith, high, same))) ∙ h.later s (omega (arith, high));
+  listed = λ s o p was. lists s o p (h.listed s o p was);
+}
+  where
+    set_on : owed_by after n ≡ owed
+    set_on = set n ∙ ap (λ b. cond b owed (owed_by waits n)) (eq-eqb n n refl)
+
+    set_off : (s : ℕ) → s ≢ n → owed_by after s ≡ owed_by waits s
+    set_off s other = set s ∙ ap (λ b. cond b owed (owed_by waits s)) (ne_eqb s n other)
+
+pub ListedBelow-all : (prefix : Prefix) (mark : ℕ → Mark) (n : ℕ) (waits : Waits) (old new : AlikeState) → ((s : ℕ) → n ≤ s → s < 64 → (mark s).owed ≡ None) → ListedBelow prefix mark n waits old new → AreListed prefix mark waits old new
+ListedBelow-all prefix mark n waits old new all h = record {
+  owed = λ s few. elim (cases_lt s n) [ inl low ↦ h.owed s low | inr high ↦ h.later s high ∙ sym (all s high few) ];
+  here = λ s few announced. elim (cases_lt s n) [
+    | inl low ↦ h.here s low announced
+    | inr high ↦ absurd (let never = sym (h.later s high) ∙ announced in cc)
+  ];
+  listed = h.listed;
 }
 
 -- all slots have been looked at, and the prefix was released
-pub MarkedBelow-all : (prefix : Prefix) (conf : Configuration) (links : List (ℕ × Linked)) (first t u : RoutingState) (n : ℕ) → ((s : ℕ) → n ≤ s → s < 64 → link_at links s ≡ None) → MarkedBelow prefix conf links first n t → u ≡ record t { waiting = u.waiting }
+pub MarkedAnew-all : (prefix : Prefix) (conf : Configuration) (links : List (ℕ × Linked)) (first t u : RoutingState) → MarkedAnew prefix conf links first t → u ≡ record t { waiting = u.waiting }
     → ((s : ℕ) (p : Prefix) → owed_at u.waiting s p ≡ owed_at t.waiting s p) → ((s : ℕ) (p : Prefix) → IsSome (route_at t.adj_in s p) → is_known u.waiting p ≡ is_known t.waiting p)
     → ((p : Prefix) → is_prefix prefix p ≡ false → is_known u.waiting p ≡ is_known t.waiting p) → IsReleased u prefix → AreMarked conf links u
-MarkedBelow-all prefix conf links first t u n all h rest owed known others released = record {
+MarkedAnew-all prefix conf links first t u h rest owed known others released = record {
   there = known_of_rest links t u h.but.there (tables_stay t u rest) known;
   released = all_released prefix t u (λ s p. routes_of_rest t u p (tables_stay t u rest) s) (λ s p few other. owed s p) others released h.but.released;
   marks = λ slot p within.
@@ -287,11 +342,7 @@ MarkedBelow-all prefix conf links first t u n all h rest owed known others relea
     marks_here : (slot : ℕ) (p : Prefix) → slot < 64 → (b : Bool) → is_prefix prefix p ≡ b → IsMarked (mark_at conf links t slot p) t slot p
     marks_here slot p within true is =
         subst (λ q. IsMarked (mark_at conf links t slot q) t slot q) (same_from_is_prefix prefix p is)
-        (elim (cases_lt slot n) [
-          | inl low ↦ h.below slot low within
-          | inr high ↦
-              marked_none _ t slot prefix (h.but.none slot within (all slot high within)) (ap (λ (m : Mark). m.owed) (mark_unlinked conf links t slot prefix (all slot high within)))
-        ])
+        (h.here slot within)
     marks_here slot p within false is = h.but.marks slot p within is
 
 both_true : (a b : Bool) → (a && b) ≡ true → (a ≡ true) × (b ≡ true)
@@ -340,14 +391,13 @@ released_known adj_in prefix old new none known s p there = by_prefix (is_prefix
     by_prefix false is = known p is
 
 -- what is owed to one slot's peer is marked
-pub mark_set : (conf : Configuration) (links : List (ℕ × Linked)) (t u : RoutingState) (slot : ℕ) (prefix : Prefix) (l : Linked) (owed : Option Owed) → link_at links slot ≡ Some l
-    → owed ≡ (mark_of conf t.adj_in t.book slot prefix (peer_at conf slot) (Some l)).owed → ((s : ℕ) (p : Prefix) → owed_at u.waiting s p ≡ cond (s == slot && is_prefix prefix p) owed (owed_at t.waiting s p))
-    → (owed ≡ Some Announcement → IsListed u.alike slot (mark_of conf t.adj_in t.book slot prefix (peer_at conf slot) (Some l)).octets prefix) → IsMarked (mark_at conf links t slot prefix) u slot prefix
-mark_set conf links t u slot prefix l owed linked is set listed =
-    marked_as _ _ u slot prefix (ap (mark_of conf t.adj_in t.book slot prefix (peer_at conf slot)) (sym linked)) (record {
-      waits = set slot prefix ∙ rw (eq-eqb slot slot refl, is_prefix-refl prefix) is;
-      listed = λ announced. listed (is ∙ announced);
-    })
+pub mark_listed : (conf : Configuration) (links : List (ℕ × Linked)) (t u : RoutingState) (slot : ℕ) (prefix : Prefix) (owed : Option Owed) → owed ≡ (mark_at conf links t slot prefix).owed
+    → (owed ≡ Some Announcement → IsListed u.alike slot (mark_at conf links t slot prefix).octets prefix) → ((s : ℕ) (p : Prefix) → owed_at u.waiting s p ≡ cond (s == slot && is_prefix prefix p) owed (owed_at t.waiting s p))
+    → IsMarked (mark_at conf links t slot prefix) u slot prefix
+mark_listed conf links t u slot prefix owed is listed set = record {
+  waits = set slot prefix ∙ rw (eq-eqb slot slot refl, is_prefix-refl prefix) is;
+  listed = λ announced. listed (is ∙ announced);
+}
 
 -- a route that came, or was refused
 pub routes_either : {T F : Type 0} (result : Result T F) (slot : ℕ) (prefix : Prefix) (what : Option PathAttributes) (old new : RouteTable) (P Q : Type 0)

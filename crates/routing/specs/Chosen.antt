@@ -1,5 +1,5 @@
 -- How often a best route may be chosen, by what comes and goes (own, for RFC 4271 section 9.1).
-use Rattle.std.specs.Prelude.{◌+◌, ◌&&◌, ℕ, suc, Bool, true, not, List, [], ◌∷◌, ◌++◌, Option, Some, None, false, if◌then◌else◌, ◌≡◌, ◌≤◌, ◌⊎◌, length}
+use Rattle.std.specs.Prelude.{◌+◌, ◌&&◌, ℕ, suc, Bool, true, not, List, [], ◌∷◌, ◌++◌, Option, Some, None, false, if◌then◌else◌, ◌≡◌, ◌≤◌, length}
 use Rattle.bgp_msg.specs.UpdateMeaning.{UpdateBody}
 use Rattle.net_prefix.specs.declared.prefix.Prefix.{Prefix}
 use Rattle.routing.specs.Updates.{is_among}

@@ -1,6 +1,6 @@
 -- What each peer is sent of Loc-RIB (RFC 4271 sections 3.2 and 9.1.3).
 use Rattle.std.specs.Prelude.{◌≡◌, ◌==◌, ◌<◌, ◌^◌, ◌⊎◌, ℕ, List, Option, Some, None, MatchOption, ⊤, if◌then◌else◌}
-use Rattle.std.specs.Option.{option_and_then}
+use Rattle.std.specs.Option.{option_and_then, option_map}
 use Rattle.bgp_attr.specs.PathAttributes.{PathAttributes}
 use Rattle.bgp_attr.specs.PeerKinds.{kind_between}
 use Rattle.bgp_conf.specs.Configuration.{Configuration}
@@ -44,7 +44,11 @@ IsExport t peer prefix octets =
     ((c : Candidate) × (attrs : PathAttributes) × IsBest t prefix c × (t.routes c.slot prefix ≡ Some attrs) × (octets ≡ exported_at t.conf peer prefix c attrs))
     ⊎ (HasNoCandidate t prefix × (octets ≡ None))
 
--- the same of the tables that are kept
+-- the best route of a prefix in the tables that are kept, with its attributes
+abbrev pub chosen_in : (Prefix → Option Candidate) → RouteTable → Prefix → Option (Candidate × PathAttributes)
+chosen_in loc_rib adj_in prefix = option_and_then (λ c. option_map (λ attrs. (c, attrs)) (route_at adj_in c.slot prefix)) (loc_rib prefix)
+
+-- its export
 abbrev pub export_in : Configuration → (Prefix → Option Candidate) → RouteTable → ExportPeer → Prefix → Option (List ℕ)
 export_in conf loc_rib adj_in peer prefix =
     option_and_then (λ c. option_and_then (λ attrs. exported_at conf peer prefix c attrs) (route_at adj_in c.slot prefix)) (loc_rib prefix)

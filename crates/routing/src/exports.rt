@@ -4,8 +4,9 @@ ghost use Rattle.std.specs.Bool.{OnTrue};
 ghost use Rattle.std.specs.Option.{option_map};
 ghost use Rattle.bgp_conf.specs.Configuration.{peer_at};
 ghost use Rattle.decision.specs.BookContents.{rows_of};
-ghost use Rattle.export_rules.specs.Export.{Tells, most_attributes};
-ghost use Rattle.routing.specs.Export.{IsAccepted, export_in, export_peer_of, received_from, selected_of};
+ghost use Rattle.bgp_attr.specs.PeerKinds.{kind_between};
+ghost use Rattle.export_rules.specs.Export.{AreAccepted, IsComplete, IsSender, Tells, most_attributes};
+ghost use Rattle.routing.specs.Export.{IsAccepted, chosen_in, export_in, export_peer_of, exported_at, received_from, selected_of};
 ghost use Rattle.routing.specs.Places.{rank_of};
 ghost use Rattle.routing.specs.Tables.{best_at};
 
@@ -19,6 +20,7 @@ use export_rules::{ExportPeer, export_of};
 use loc_rib::Ribs;
 use net_prefix::{Asn, Prefix};
 use std::alloc::Allocator;
+use std::marker::Model;
 
 /// The octets of one message, or of its attributes.
 pub type Octets = ArrayVec<u8, MAX_MESSAGE>;
@@ -36,9 +38,36 @@ pub fn export_peer<A: Allocator + Clone>(conf: &Conf<A>, slot: u8) -> Option<Exp
     })
 }
 
+/// The best route of a prefix, with the attributes that it came with.
+#[derive(Drop)]
+pub struct Chosen<'a, A: Allocator> {
+    candidate: Candidate,
+    attrs: &'a Attrs<A>,
+}
+
+impl<'a, A: Allocator> Model for Chosen<'a, A> {
+    ghost use Rattle.bgp_attr.specs.PathAttributes.{PathAttributes};
+    ghost use Rattle.decision.specs.declared.candidate.Candidate.{Candidate};
+
+    ghost Value = { Candidate × PathAttributes };
+
+    ghost view = { λ c. (c.candidate, c.attrs.now) };
+}
+
+/// The best route of a prefix, where there is one.
+pub fn chosen_route<A: Allocator + Clone, B: Book<A>>(
+    ribs: &Ribs<A, B>,
+    prefix: Prefix,
+) -> Option<Chosen<'_, A>>
+    ensures { result ≡ chosen_in (best_at (rows_of ribs.now.book)) ribs.now.adj_in prefix }
+{
+    let candidate = ribs.best(prefix)?;
+    let attrs = ribs.routes().get(candidate.slot, prefix)?;
+    Some(Chosen { candidate, attrs })
+}
+
 /// What is exported of a prefix: the best route, where there is one and it is exported to this peer, by its export policy.
 /// Answers false where nothing is; `octets` are then empty.
-#[tactic(auto, using(crate::proofs::Exported::on_accepted))]
 pub fn export<A: Allocator + Clone, B: Book<A>>(
     conf: &Conf<A>,
     ribs: &Ribs<A, B>,
@@ -51,15 +80,29 @@ pub fn export<A: Allocator + Clone, B: Book<A>>(
     // The peer finds no fault with it.
     ensures accepted { OnTrue result (IsAccepted (rows_of ribs.now.book) ribs.now.adj_in peer.now prefix octets.new.items) }
 {
+    let Some(chosen) = chosen_route(ribs, prefix) else {
+        octets.clear();
+        return false;
+    };
+    export_chosen(conf, &chosen, peer, prefix, octets)
+}
+
+/// What is exported of a prefix with this best route. Answers false where nothing is; `octets` are then empty.
+pub fn export_chosen<A: Allocator + Clone>(
+    conf: &Conf<A>,
+    chosen: &Chosen<'_, A>,
+    peer: &ExportPeer,
+    prefix: Prefix,
+    octets: &mut Octets,
+) -> bool
+    ensures tells { Tells result octets.new.items (exported_at conf.now peer.now prefix chosen.now.0 chosen.now.1) }
+    ensures small { OnTrue result (length octets.new.items ≤ most_attributes) }
+    ensures accepted { OnTrue result (IsSender peer.now → IsComplete chosen.now.0 chosen.now.1 → AreAccepted (kind_between peer.now.asn peer.now.own) octets.new.items) }
+{
     octets.clear();
-    let Some(route) = ribs.best(prefix) else {
-        return false;
-    };
-    let Some(attrs) = ribs.routes().get(route.slot, prefix) else {
-        return false;
-    };
-    let action = conf.export(peer.slot, &seen(conf.own(), prefix, &route, attrs));
-    export_of(&route, attrs, peer, action, octets)
+    let seen = seen(conf.own(), prefix, &chosen.candidate, chosen.attrs);
+    let action = conf.export(peer.slot, &seen);
+    export_of(&chosen.candidate, chosen.attrs, peer, action, octets)
 }
 
 // The best route of a prefix as export policies see it: as it was received.

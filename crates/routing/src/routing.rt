@@ -1,25 +1,26 @@
 //! The tables that routes go through: the routes that came with Loc-RIB, and what waits of each prefix for each peer.
 ghost use Rattle.std.specs.Prelude.{◌≡◌, ◌==◌, ◌&&◌, ◌||◌, ◌<◌, ◌≤◌, ◌+◌, ◌-◌, ◌≢◌, not, ℕ, Bool, List, [], All, IfOk, OnOk, OnErr, IfSome, IfNone, None, Some, true, false, if◌then◌else◌};
-ghost use Rattle.std.specs.Option.{IsSome};
+ghost use Rattle.std.specs.Option.{IsSome, option_copied};
 ghost use Rattle.std.specs.Ordering.{is_gt};
 ghost use Rattle.bgp_conf.specs.Configuration.{peer_at};
 ghost use Rattle.bgp_conf.specs.PeerPolicies.{exports_by};
 ghost use Rattle.policy.specs.PolicyNames.{is_policy_name, name_of};
-ghost use Rattle.decision.specs.BookContents.{AreApart, changed, is_prefix, offer_at, rows_of};
+ghost use Rattle.decision.specs.BookContents.{AreApart, BookState, changed, is_prefix, offer_at, rows_of};
 ghost use Rattle.net_prefix.specs.PrefixOrder.{IsAbove, prefix_cmp};
 ghost use Rattle.net_prefix.specs.declared.prefix.Prefix.{Prefix as ThePrefix};
-ghost use Rattle.rib_in.specs.LatestRoutes.{is_route, route_at};
+ghost use Rattle.rib_in.specs.LatestRoutes.{RouteTable, is_route, route_at};
 ghost use Rattle.rib_out.specs.Alike.{IsListed};
 ghost use Rattle.rib_out.specs.Held.{is_among};
-ghost use Rattle.rib_out.specs.Waiting.{is_known, owed_at};
+ghost use Rattle.rib_out.specs.Waiting.{is_known, owed_at, owed_by};
 ghost use Rattle.rib_out.specs.declared.marks.Owed.TheVariants.{Announcement};
 ghost use Rattle.routing.specs.Chosen.{Ends};
 ghost use Rattle.routing.specs.Linked.{Linked};
 ghost use Rattle.routing.specs.Marks.{AreKnown, AreMarked, AreMarkedBut, AreMarkedFor, IsMarked, IsReleased, IsUnmarked, mark_at, mark_of};
 ghost use Rattle.routing.specs.RoutingState.{started};
-ghost use Rattle.routing.specs.Tables.{link_at};
+ghost use Rattle.routing.specs.Export.{chosen_in};
+ghost use Rattle.routing.specs.Tables.{best_at, link_at};
 
-use crate::exports::{Octets, export, export_peer, place};
+use crate::exports::{Chosen, Octets, chosen_route, export, export_chosen, export_peer, place};
 use crate::link::Link;
 use bgp_attr::Attrs;
 use bgp_conf::Conf;
@@ -27,7 +28,7 @@ use bgp_fsm::State;
 use decision::{Book, Candidate, Change};
 use loc_rib::Ribs;
 use net_prefix::Prefix;
-use rib_out::{AlikePrefixes, Owed, Waiting};
+use rib_out::{AlikePrefixes, Owed, Waiting, Waits};
 use std::alloc::{AllocError, Allocator};
 use std::collections::BTreeMap;
 use std::marker::Model;
@@ -456,11 +457,11 @@ impl<A: Allocator + Clone, B: Book<A>> Routing<A, B> {
         ensures marked { AreMarked conf.now links.now.entries self.new }
         ensures rest { self.new ≡ record self.old { waiting = self.new.waiting; alike = self.new.alike } }
     {
-        let mut octets = Octets::new();
-        for slot in 0..slots_end(links) {
-            self.mark(conf, links, slot, prefix, &mut octets);
+        let waits = list_peers(&self.ribs, &mut self.alike, conf, links, prefix);
+        self.waiting.put(prefix, waits);
+        if waits.is_idle() {
+            self.release(prefix);
         }
-        self.release(prefix);
     }
 
     // What of the prefix waits for the slot's peer, where there is one. What waits to be announced is listed.
@@ -480,14 +481,17 @@ impl<A: Allocator + Clone, B: Book<A>> Routing<A, B> {
         ensures known { (p : ThePrefix) → is_known self.new.waiting p ≡ is_known self.old.waiting p }
         ensures rest { self.new ≡ record self.old { waiting = self.new.waiting; alike = self.new.alike } }
     {
-        let Some(link) = links.get(&slot) else {
-            return;
-        };
-        let owed = owed(conf, &self.ribs, slot, link, prefix, octets);
+        let chosen = chosen_route(&self.ribs, prefix);
+        let owed = list(
+            &mut self.alike,
+            conf,
+            links,
+            slot,
+            prefix,
+            chosen.as_ref(),
+            octets,
+        );
         self.waiting.set(slot, prefix, owed);
-        if owed == Some(Owed::Announcement) {
-            self.alike.list(slot, octets.as_slice(), prefix);
-        }
     }
 
     // A prefix without routes of which nothing waits isn't known any more.
@@ -517,24 +521,86 @@ pub fn slots_end<A: Allocator + Clone>(links: &Links<A>) -> u8
     }
 }
 
-// What of the prefix is owed to the slot's peer: nothing, where its session isn't Established. Where it is to be announced,
-// `octets` are what is exported.
-fn owed<A: Allocator + Clone, B: Book<A>>(
-    conf: &Conf<A>,
+// What each peer is owed of the prefix. What is to be announced is listed.
+fn list_peers<A: Allocator + Clone, B: Book<A>>(
     ribs: &Ribs<A, B>,
+    alike: &mut AlikePrefixes<A>,
+    conf: &Conf<A>,
+    links: &Links<A>,
+    prefix: Prefix,
+) -> Waits
+    requires { (s : ℕ) (l : Linked) → link_at links.now.entries s ≡ Some l → s < 64 }
+    ensures owed { (s : ℕ) → s < 64 → owed_by result s ≡ (mark_of conf.now ribs.now.adj_in ribs.now.book s prefix (peer_at conf.now s) (link_at links.now.entries s)).owed }
+    ensures here { (s : ℕ) → s < 64 → owed_by result s ≡ Some Announcement → IsListed alike.new s (mark_of conf.now ribs.now.adj_in ribs.now.book s prefix (peer_at conf.now s) (link_at links.now.entries s)).octets prefix }
+    ensures listed { (s : ℕ) (o : List ℕ) (p : ThePrefix) → IsListed alike.old s o p → IsListed alike.new s o p }
+{
+    let mut octets = Octets::new();
+    let mut waits = Waits::for_none();
+    let chosen = chosen_route(ribs, prefix);
+    for slot in 0..slots_end(links) {
+        let owed = list(
+            alike,
+            conf,
+            links,
+            slot,
+            prefix,
+            chosen.as_ref(),
+            &mut octets,
+        );
+        waits.set(slot, owed);
+    }
+    waits
+}
+
+// What of the prefix, with this best route, is owed to the slot's peer, where there is one. What is to be announced is listed.
+fn list<A: Allocator + Clone>(
+    alike: &mut AlikePrefixes<A>,
+    conf: &Conf<A>,
+    links: &Links<A>,
+    slot: u8,
+    prefix: Prefix,
+    chosen: Option<&Chosen<'_, A>>,
+    octets: &mut Octets,
+) -> Option<Owed>
+    requires { slot < 64 }
+    ensures owed { (adj_in : RouteTable) (book : BookState) → option_copied chosen.entry ≡ chosen_in (best_at (rows_of book)) adj_in prefix
+        → result ≡ (mark_of conf.now adj_in book slot prefix (peer_at conf.now slot) (link_at links.now.entries slot)).owed }
+    ensures here { (adj_in : RouteTable) (book : BookState) → option_copied chosen.entry ≡ chosen_in (best_at (rows_of book)) adj_in prefix
+        → result ≡ Some Announcement → IsListed alike.new slot (mark_of conf.now adj_in book slot prefix (peer_at conf.now slot) (link_at links.now.entries slot)).octets prefix }
+    ensures listed { (s : ℕ) (o : List ℕ) (p : ThePrefix) → IsListed alike.old s o p → IsListed alike.new s o p }
+{
+    let link = links.get(&slot)?;
+    let owed = owed(conf, chosen, slot, link, prefix, octets);
+    if owed == Some(Owed::Announcement) {
+        alike.list(slot, octets.as_slice(), prefix);
+    }
+    owed
+}
+
+// What of the prefix, with this best route, is owed to the slot's peer: nothing, where its session isn't Established. Where it
+// is to be announced, `octets` are what is exported.
+fn owed<A: Allocator + Clone>(
+    conf: &Conf<A>,
+    chosen: Option<&Chosen<'_, A>>,
     slot: u8,
     link: &Link<A>,
     prefix: Prefix,
     octets: &mut Octets,
 ) -> Option<Owed>
-    ensures owed { result ≡ (mark_of conf.now ribs.now.adj_in ribs.now.book slot prefix (peer_at conf.now slot) (Some link.now)).owed }
-    ensures octets { result ≡ Some Announcement → octets.new.items ≡ (mark_of conf.now ribs.now.adj_in ribs.now.book slot prefix (peer_at conf.now slot) (Some link.now)).octets }
+    ensures owed { (adj_in : RouteTable) (book : BookState) → option_copied chosen.entry ≡ chosen_in (best_at (rows_of book)) adj_in prefix
+        → result ≡ (mark_of conf.now adj_in book slot prefix (peer_at conf.now slot) (Some link.now)).owed }
+    ensures octets { (adj_in : RouteTable) (book : BookState) → option_copied chosen.entry ≡ chosen_in (best_at (rows_of book)) adj_in prefix
+        → result ≡ Some Announcement → octets.new.items ≡ (mark_of conf.now adj_in book slot prefix (peer_at conf.now slot) (Some link.now)).octets }
 {
     let peer = export_peer(conf, slot)?;
     if link.peer.state() != State::Established {
         return None;
     }
-    if !export(conf, ribs, &peer, prefix, octets) {
+    let is_exported = match chosen {
+        Some(chosen) => export_chosen(conf, chosen, &peer, prefix, octets),
+        None => false,
+    };
+    if !is_exported {
         return match link.adj_out.get(prefix) {
             Some(_) => Some(Owed::Withdrawal),
             None => None,
