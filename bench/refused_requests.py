@@ -6,7 +6,7 @@
 GROWTHS and OVPLAY are the built programs. Each case of each script is played by `growths` with the first request of its
 speaker or cache refused, with the second, and so on until it makes no such request; where a case makes over N requests
 (1,000), a spread of N over them is refused. The rows of each case are `alike`: a session that is closed begins anew in the
-run without refusals too, and from there on both answer and show the same (crates/growths/src/refused.rt).
+run without refusals too, and from there on both answer and show the same (crates/paired_plays/src/refused.rt).
 
 PDUs come one a line, and what waits for a cache's client is handed out around its queries, so that what a refused request
 comes to can be told apart. Ends with how often requests came to what, and with status 0 where nothing was wrong.

@@ -1,7 +1,7 @@
 //! What is made, and lent to the work. To let go what has many parts is proved at each way out of the function that
 //! owns it: so it is owned here, where its parts aren't known, and lent.
 
-use crate::fault::Fault;
+use paired_plays::Fault;
 use std::alloc::AllocError;
 
 /// Lends what was made to the work, and lets it go.

@@ -3,27 +3,19 @@
 //! Each line of standard input names a case, whose files lie in `data`: NAME.in is a script as `ovplay` plays it, and
 //! NAME.out what it answers where no request is refused. The script is played so first. Then it is played with the
 //! first request of the speaker or the cache refused, with the second, and so on until it makes no such request; beside
-//! each such run goes one to which nothing is refused. Up to the refused request both answer alike. What a refused
-//! request may come to, and what must stay as it was, stands in `refused.rt`. NAME.again has what peers and clients do
-//! that were closed and come again, and NAME.rows what must have come of the refused requests (`rows.rt`).
+//! each such run goes one to which nothing is refused. What a refused request may come to, and what must stay as it was,
+//! crate `paired_plays` says. NAME.again has what peers and clients do that were closed and come again, and NAME.rows what
+//! must have come of the refused requests.
 //!
 //! For each case a line says how often each of these came; or where it went wrong.
 #![tactic(auto)]
 
-mod answers;
-mod calls;
-mod case;
-mod endings;
-mod fault;
 mod lent;
-mod lines;
-mod pair;
-mod refused;
-mod rows;
-mod views;
+mod plays;
+mod staged;
 
-use crate::case::{Case, Counts, play_case};
-use crate::fault::Fault;
+use crate::plays::play_case;
+use paired_plays::{Case, Counts, Fault};
 use std::fs;
 use std::io::{self, BufRead, BufReader, Write};
 use std::process::ExitCode;

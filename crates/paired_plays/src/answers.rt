@@ -1,12 +1,11 @@
-//! What a stage answers to a call.
+//! What a play answers to a call.
 
 use crate::calls::Call;
 use crate::fault::Fault;
 use crate::lines::{Lines, number_at, row_of};
-use decision::Book;
-use scenario::Stage;
-use speaker::{Speaker, Transport};
-use std::alloc::{Allocator, Global};
+use crate::play::Play;
+use net_prefix::Transport;
+use std::alloc::Global;
 use std::io::{self, Write};
 
 // More slots than there are peers.
@@ -19,56 +18,52 @@ const MOST_RINGS: u32 = 1_000;
 const NOTHING_OUT: &[u8] = b"refused 40\n";
 
 /// Plays the lines of a call, and puts in what they answer in the place of what the text was.
-pub fn answer<A: Allocator + Clone + Copy, B: Book<A>>(
-    stage: &mut Stage<A, B>,
-    call: Call<'_>,
-    text: &mut Vec<u8>,
-) -> Result<(), Fault> {
+pub fn answer<P: Play>(play: &mut P, call: Call<'_>, text: &mut Vec<u8>) -> Result<(), Fault> {
     text.clear();
     for line in Lines::of(call.text) {
-        answer_line(stage, call.with(line), text)?;
+        answer_line(play, call.with(line), text)?;
     }
     Ok(())
 }
 
 /// Has all octets of a slot handed out at this call.
-pub fn take_all<A: Allocator + Clone + Copy, B: Book<A>>(
-    stage: &mut Stage<A, B>,
+pub fn take_all<P: Play>(
+    play: &mut P,
     call: Call<'_>,
     slot: u8,
     alloc: Global,
     text: &mut Vec<u8>,
 ) -> Result<(), Fault> {
     let line = format!(in alloc; "take {slot} 65536")?;
-    answer(stage, call.with(line.as_str().as_bytes()), text)
+    answer(play, call.with(line.as_str().as_bytes()), text)
 }
 
 /// The session of a slot ends and begins anew, and each slot has all of its octets handed out.
-pub fn begin_anew<A: Allocator + Clone + Copy, B: Book<A>>(
-    stage: &mut Stage<A, B>,
+pub fn begin_anew<P: Play>(
+    play: &mut P,
     call: Call<'_>,
     slot: u8,
     alloc: Global,
     text: &mut Vec<u8>,
 ) -> Result<(), Fault> {
     let lines = format!(in alloc; "disable {slot}\nfail {slot}\nenable {slot}\n")?;
-    answer(stage, call.with(lines.as_str().as_bytes()), text)?;
+    answer(play, call.with(lines.as_str().as_bytes()), text)?;
     for slot in 0..SLOTS {
-        drain(stage, call, slot, alloc, text)?;
+        drain(play, call, slot, alloc, text)?;
     }
     Ok(())
 }
 
 // What is handed out makes room for more.
-fn drain<A: Allocator + Clone + Copy, B: Book<A>>(
-    stage: &mut Stage<A, B>,
+fn drain<P: Play>(
+    play: &mut P,
     call: Call<'_>,
     slot: u8,
     alloc: Global,
     text: &mut Vec<u8>,
 ) -> Result<(), Fault> {
     for _ in 0..MOST_RINGS {
-        take_all(stage, call, slot, alloc, text)?;
+        take_all(play, call, slot, alloc, text)?;
         if text.len() <= NOTHING_OUT.len() {
             break;
         }
@@ -77,37 +72,22 @@ fn drain<A: Allocator + Clone + Copy, B: Book<A>>(
 }
 
 /// A client of the cache goes, and another comes in its place.
-pub fn replace_client<A: Allocator + Clone + Copy, B: Book<A>>(
-    stage: &mut Stage<A, B>,
+pub fn replace_client<P: Play>(
+    play: &mut P,
     call: Call<'_>,
     key: u64,
     alloc: Global,
     text: &mut Vec<u8>,
 ) -> Result<(), Fault> {
     let lines = format!(in alloc; "cdown {key}\ncup\n")?;
-    answer(stage, call.with(lines.as_str().as_bytes()), text)
+    answer(play, call.with(lines.as_str().as_bytes()), text)
 }
 
-fn answer_line<A: Allocator + Clone + Copy, B: Book<A>>(
-    stage: &mut Stage<A, B>,
-    line: Call<'_>,
-    text: &mut Vec<u8>,
-) -> Result<(), Fault> {
+fn answer_line<P: Play>(play: &mut P, line: Call<'_>, text: &mut Vec<u8>) -> Result<(), Fault> {
     if is_look(line.text) {
-        look(stage, line.text, text).map_err(Fault::from)
+        look(play, line.text, text).map_err(Fault::from)
     } else {
-        play_line(stage, line, text)
-    }
-}
-
-fn play_line<A: Allocator + Clone + Copy, B: Book<A>>(
-    stage: &mut Stage<A, B>,
-    line: Call<'_>,
-    text: &mut Vec<u8>,
-) -> Result<(), Fault> {
-    match stage.play_line(line.number, line.text, text) {
-        Ok(()) => Ok(()),
-        Err(fault) => Err(Fault::from(fault)),
+        play.play_line(line, text)
     }
 }
 
@@ -119,25 +99,22 @@ pub fn is_look(line: &[u8]) -> bool {
         || line.starts_with(b"transport ")
 }
 
-fn look<A: Allocator + Clone + Copy, B: Book<A>>(
-    stage: &Stage<A, B>,
-    line: &[u8],
-    text: &mut Vec<u8>,
-) -> io::Result<()> {
-    let Some(speaker) = stage.speaker() else {
+fn look<P: Play>(play: &P, line: &[u8], text: &mut Vec<u8>) -> io::Result<()> {
+    if !play.has_speaker() {
         return Ok(());
-    };
+    }
     if line == b"chosen\n".as_slice() {
-        return write_chosen(speaker.chosen(), text);
+        return write_chosen(play.chosen(), text);
     }
     match number_at(row_of(line), 1) {
-        Some(slot) => write_transport(transport_at(speaker, slot), text),
-        None => write_opened(stage.report().opened, text),
+        Some(slot) => write_transport(play.transport(slot_of(slot)), text),
+        None => write_opened(play.opened().slots, text),
     }
 }
 
-fn transport_at<A: Allocator + Clone, B: Book<A>>(speaker: &Speaker<A, B>, slot: u64) -> Transport {
-    speaker.transport(u8::try_from(slot).unwrap_or(u8::MAX))
+// A slot that isn't there, where the number is too large.
+fn slot_of(number: u64) -> u8 {
+    u8::try_from(number).unwrap_or(u8::MAX)
 }
 
 fn write_chosen(chosen: u64, text: &mut Vec<u8>) -> io::Result<()> {

@@ -1,7 +1,6 @@
 //! What ends a case.
 ghost use Rattle.std.specs.Prelude.{⊤};
 
-use scenario::PlayFault;
 use std::alloc::AllocError;
 use std::{fmt, io};
 
@@ -103,16 +102,5 @@ impl From<io::Error> for Fault {
 
     fn from(_error: io::Error) -> Fault {
         Fault::Device
-    }
-}
-
-impl From<PlayFault> for Fault {
-    ghost from_gives = { λ _ _. ⊤ };
-
-    fn from(fault: PlayFault) -> Fault {
-        match fault {
-            PlayFault::BadLine(number) => Fault::BadLine(number),
-            PlayFault::Device | PlayFault::NoMemory => Fault::Device,
-        }
     }
 }

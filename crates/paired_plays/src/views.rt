@@ -3,44 +3,13 @@
 use crate::endings::Ending;
 use crate::fault::{Fault, Wrong};
 use crate::lines::{Lines, number_at, row_of, split_line, word_at};
-use decision::{Book, PlainBook};
-use rtr_cache::Cache;
-use scenario::{Stage, Table, show};
-use speaker::{Speaker, Transport};
-use std::alloc::{Allocator, Global};
+use crate::play::{Play, Table};
+use net_prefix::Transport;
+use std::alloc::Global;
 use std::io;
 
 // More slots than peers and clients have.
 const SLOTS: u8 = 64;
-
-/// What shows tables and what stands between it and its peers: a speaker, whatever it is made of.
-trait View {
-    fn show(&self, table: Table, text: &mut Vec<u8>) -> io::Result<()>;
-
-    fn transport(&self, slot: u8) -> Transport;
-
-    fn cache_transport(&self) -> Transport;
-
-    fn chosen(&self) -> u64;
-}
-
-impl<A: Allocator + Clone, B: Book<A>> View for Speaker<A, B> {
-    fn show(&self, table: Table, text: &mut Vec<u8>) -> io::Result<()> {
-        show(self, table, text)
-    }
-
-    fn transport(&self, slot: u8) -> Transport {
-        Speaker::transport(self, slot)
-    }
-
-    fn cache_transport(&self) -> Transport {
-        Speaker::cache_transport(self)
-    }
-
-    fn chosen(&self) -> u64 {
-        Speaker::chosen(self)
-    }
-}
 
 /// What is compared: all; or at the end of a script only the sessions, Loc-RIB and the routes as received, where a peer
 /// was closed and hasn't come again; or where a peer was just closed the sessions, the payloads and the routes as received.
@@ -74,43 +43,38 @@ impl Scope {
 }
 
 /// Whether both show the same, but for what the ending leaves.
-pub fn shows_alike<A: Allocator + Clone + Copy, B: Book<A>>(
+pub fn shows_alike<P: Play, Q: Play>(
     alloc: Global,
-    tested: &Stage<A, B>,
-    whole: &Stage<Global, PlainBook>,
+    tested: &P,
+    whole: &Q,
     ending: Ending,
     scope: Scope,
 ) -> Result<bool, Fault> {
-    if scope.is_whole() && !are_caches_alike(tested.cache(), whole.cache(), ending) {
+    if scope.is_whole() && !are_caches_alike(tested, whole, ending) {
         return Ok(false);
     }
-    match (tested.speaker(), whole.speaker()) {
-        (Some(tested), Some(whole)) => are_speakers_alike(alloc, tested, whole, ending, scope),
-        (None, None) => Ok(scope.is_whole()),
+    match (tested.has_speaker(), whole.has_speaker()) {
+        (true, true) => are_speakers_alike(alloc, tested, whole, ending, scope),
+        (false, false) => Ok(scope.is_whole()),
         _ => Ok(false),
     }
 }
 
-fn are_caches_alike<A: Allocator + Clone>(
-    tested: Option<&Cache<A>>,
-    whole: Option<&Cache>,
-    ending: Ending,
-) -> bool {
-    match (tested, whole) {
-        (Some(tested), Some(whole)) => are_clients_alike(tested, whole, ending),
-        (None, None) => true,
+fn are_caches_alike<P: Play, Q: Play>(tested: &P, whole: &Q, ending: Ending) -> bool {
+    match (tested.has_cache(), whole.has_cache()) {
+        (true, true) => are_clients_alike(tested, whole, ending),
+        (false, false) => true,
         _ => false,
     }
 }
 
-fn are_clients_alike<A: Allocator + Clone>(
-    tested: &Cache<A>,
-    whole: &Cache,
-    ending: Ending,
-) -> bool {
+fn are_clients_alike<P: Play, Q: Play>(tested: &P, whole: &Q, ending: Ending) -> bool {
     for key in 0..u64::from(SLOTS) {
-        let wanted = left(whole.transport(key), ending == Ending::ClientClosed(key));
-        if tested.transport(key) != wanted {
+        let wanted = left(
+            whole.client_transport(key),
+            ending == Ending::ClientClosed(key),
+        );
+        if tested.client_transport(key) != wanted {
             return false;
         }
     }
@@ -126,10 +90,10 @@ fn left(transport: Transport, is_closed: bool) -> Transport {
     }
 }
 
-fn are_speakers_alike<T: View, U: View>(
+fn are_speakers_alike<P: Play, Q: Play>(
     alloc: Global,
-    tested: &T,
-    whole: &U,
+    tested: &P,
+    whole: &Q,
     ending: Ending,
     scope: Scope,
 ) -> Result<bool, Fault> {
@@ -140,13 +104,13 @@ fn are_speakers_alike<T: View, U: View>(
 }
 
 // Where nothing was closed, a best route has been chosen as often in the last call.
-fn are_connected_alike<T: View, U: View>(tested: &T, whole: &U, ending: Ending) -> bool {
+fn are_connected_alike<P: Play, Q: Play>(tested: &P, whole: &Q, ending: Ending) -> bool {
     are_peers_alike(tested, whole, ending)
         && has_cache_alike(tested, whole, ending)
         && (ending != Ending::Refused || tested.chosen() == whole.chosen())
 }
 
-fn are_peers_alike<T: View, U: View>(tested: &T, whole: &U, ending: Ending) -> bool {
+fn are_peers_alike<P: Play, Q: Play>(tested: &P, whole: &Q, ending: Ending) -> bool {
     for slot in 0..SLOTS {
         let wanted = left(whole.transport(slot), ending == Ending::Closed(slot));
         if tested.transport(slot) != wanted {
@@ -156,7 +120,7 @@ fn are_peers_alike<T: View, U: View>(tested: &T, whole: &U, ending: Ending) -> b
     true
 }
 
-fn has_cache_alike<T: View, U: View>(tested: &T, whole: &U, ending: Ending) -> bool {
+fn has_cache_alike<P: Play, Q: Play>(tested: &P, whole: &Q, ending: Ending) -> bool {
     tested.cache_transport() == left(whole.cache_transport(), ending == Ending::CacheClosed)
 }
 
@@ -189,10 +153,10 @@ impl Texts {
     }
 }
 
-fn have_tables_alike<T: View, U: View>(
+fn have_tables_alike<P: Play, Q: Play>(
     alloc: Global,
-    tested: &T,
-    whole: &U,
+    tested: &P,
+    whole: &Q,
     ending: Ending,
     scope: Scope,
 ) -> Result<bool, Fault> {
@@ -205,10 +169,10 @@ fn have_tables_alike<T: View, U: View>(
     }
 }
 
-fn are_all_alike<T: View, U: View>(
+fn are_all_alike<P: Play, Q: Play>(
     texts: &mut Texts,
-    tested: &T,
-    whole: &U,
+    tested: &P,
+    whole: &Q,
     ending: Ending,
     scope: Scope,
 ) -> bool {
@@ -217,15 +181,15 @@ fn are_all_alike<T: View, U: View>(
         && are_slots_alike(texts, tested, whole, ending, scope)
 }
 
-fn show_rib<U: View>(texts: &mut Texts, whole: &U) -> bool {
+fn show_rib<Q: Play>(texts: &mut Texts, whole: &Q) -> bool {
     let shown = whole.show(Table::Rib, &mut texts.rib);
     texts.keep(shown)
 }
 
-fn are_common_alike<T: View, U: View>(
+fn are_common_alike<P: Play, Q: Play>(
     texts: &mut Texts,
-    tested: &T,
-    whole: &U,
+    tested: &P,
+    whole: &Q,
     ending: Ending,
     scope: Scope,
 ) -> bool {
@@ -233,10 +197,10 @@ fn are_common_alike<T: View, U: View>(
     are_alike(texts, tested, whole, &tables, ending, scope)
 }
 
-fn are_slots_alike<T: View, U: View>(
+fn are_slots_alike<P: Play, Q: Play>(
     texts: &mut Texts,
-    tested: &T,
-    whole: &U,
+    tested: &P,
+    whole: &Q,
     ending: Ending,
     scope: Scope,
 ) -> bool {
@@ -249,10 +213,10 @@ fn are_slots_alike<T: View, U: View>(
     true
 }
 
-fn are_alike<T: View, U: View>(
+fn are_alike<P: Play, Q: Play>(
     texts: &mut Texts,
-    tested: &T,
-    whole: &U,
+    tested: &P,
+    whole: &Q,
     tables: &[Table],
     ending: Ending,
     scope: Scope,
@@ -265,17 +229,17 @@ fn are_alike<T: View, U: View>(
     true
 }
 
-fn is_alike<T: View, U: View>(
+fn is_alike<P: Play, Q: Play>(
     texts: &mut Texts,
-    tested: &T,
-    whole: &U,
+    tested: &P,
+    whole: &Q,
     table: Table,
     ending: Ending,
 ) -> bool {
     are_shown(texts, tested, whole, table) && is_left_of(texts, table, ending)
 }
 
-fn are_shown<T: View, U: View>(texts: &mut Texts, tested: &T, whole: &U, table: Table) -> bool {
+fn are_shown<P: Play, Q: Play>(texts: &mut Texts, tested: &P, whole: &Q, table: Table) -> bool {
     texts.tested.clear();
     texts.whole.clear();
     let first = tested.show(table, &mut texts.tested);

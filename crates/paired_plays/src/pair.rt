@@ -4,12 +4,9 @@ use crate::answers::{answer, begin_anew, replace_client, take_all};
 use crate::calls::Call;
 use crate::endings::{Ending, is_told_and_closed};
 use crate::fault::{Fault, Wrong};
+use crate::play::Play;
 use crate::views::{Scope, shows_alike};
-use decision::PlainBook;
-use live_book::LiveBook;
-use scenario::Stage;
-use speaker::Report;
-use std::alloc::{Allocator, Global};
+use std::alloc::Global;
 
 /// Two runs, whatever they are made of: to know that makes each proof dear, and none needs it. Where a call doesn't go
 /// well its answer is false, and the runs keep the first fault.
@@ -48,23 +45,19 @@ pub trait Runs {
     fn shows_alike(&mut self, ending: Ending, scope: Scope, number: u64) -> bool;
 }
 
-/// The two, the first over a LiveBook and the other over a PlainBook, and what each answered last.
+/// The two, and what each answered last.
 #[derive(Drop)]
-pub struct Pair<'a, A: Allocator + Clone> {
+pub struct Pair<'a, P, Q> {
     alloc: Global,
-    tested: &'a mut Stage<A, LiveBook<A>>,
-    whole: &'a mut Stage<Global, PlainBook>,
+    tested: &'a mut P,
+    whole: &'a mut Q,
     answer: Vec<u8>,
     told: Vec<u8>,
     fault: Option<Fault>,
 }
 
-impl<'a, A: Allocator + Clone + Copy> Pair<'a, A> {
-    pub fn of(
-        alloc: Global,
-        tested: &'a mut Stage<A, LiveBook<A>>,
-        whole: &'a mut Stage<Global, PlainBook>,
-    ) -> Self {
+impl<'a, P: Play, Q: Play> Pair<'a, P, Q> {
+    pub fn of(alloc: Global, tested: &'a mut P, whole: &'a mut Q) -> Self {
         Pair {
             alloc,
             tested,
@@ -92,7 +85,7 @@ impl<'a, A: Allocator + Clone + Copy> Pair<'a, A> {
     }
 }
 
-impl<A: Allocator + Clone + Copy> Runs for Pair<'_, A> {
+impl<P: Play, Q: Play> Runs for Pair<'_, P, Q> {
     fn play(&mut self, call: Call<'_>) -> bool {
         let played = answer(self.tested, call, &mut self.answer);
         self.keep(played)
@@ -136,7 +129,7 @@ impl<A: Allocator + Clone + Copy> Runs for Pair<'_, A> {
 
     fn is_as_told(&self) -> bool {
         self.answer.as_slice() == self.told.as_slice()
-            && opens_alike(self.tested.report(), self.whole.report())
+            && self.tested.opened() == self.whole.opened()
     }
 
     fn is_told_and_closed(&self) -> bool {
@@ -149,8 +142,4 @@ impl<A: Allocator + Clone + Copy> Runs for Pair<'_, A> {
             Err(fault) => self.keep(Err(fault)),
         }
     }
-}
-
-fn opens_alike(tested: Report, whole: Report) -> bool {
-    tested.opened == whole.opened && tested.cache_opened == whole.cache_opened
 }
