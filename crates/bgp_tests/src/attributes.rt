@@ -85,11 +85,14 @@ fn are_read(alloc: Global, kind: PeerKind, local_pref: Option<u32>) -> bool {
     }
 }
 
-// LOCAL_PREF of an external peer is dropped.
+// The kind of a peer, and the LOCAL_PREF that is read: that of an external peer is dropped.
+const LOCAL_PREFS: [(PeerKind, Option<u32>); 2] = [(PeerKind::Internal, Some(200)), (PEER, None)];
+
 #[test]
 fn each_call_says_what_came(rt: HostRuntime) {
-    assert!(rt; are_read(rt.alloc(), PeerKind::Internal, Some(200)));
-    assert!(rt; are_read(rt.alloc(), PEER, None));
+    for (kind, local_pref) in &LOCAL_PREFS {
+        assert!(rt; are_read(rt.alloc(), *kind, *local_pref));
+    }
 }
 
 // Attributes, the kind of peer that they came from, and what is missing for one of the second kind.
@@ -120,29 +123,36 @@ fn what_is_missing_is_told(rt: HostRuntime) {
     }
 }
 
-// Whether these attributes of a peer have this LOCAL_PREF, and a path of this length.
-fn have(
-    alloc: Global,
-    octets: &[u8],
-    kind: PeerKind,
-    local_pref: Option<u32>,
-    length: Option<u32>,
-) -> bool {
+// Attributes, the kind of peer that they came from, and the length of their path, if they have one. None has a LOCAL_PREF:
+// that of an external peer isn't checked. An internal path begins with any AS.
+#[rattlefmt::skip]
+const UNCHECKED: [(&[u8], PeerKind, Option<u32>); 3] = [
+    (&[0xC0, 5, 1, 0],                  PEER,               None),
+    (&[0x40, 2, 0],                     PeerKind::Internal, Some(0)),
+    (&[0x40, 2, 6, 2, 1, 0, 0, 0, 1],   PeerKind::Internal, Some(1)),
+];
+
+// Whether these attributes of a peer have no LOCAL_PREF, and a path of this length.
+fn have(alloc: Global, octets: &[u8], kind: PeerKind, length: Option<u32>) -> bool {
     match read_attrs(&alloc, octets, kind) {
-        Ok(attrs) => {
-            attrs.local_pref() == local_pref && attrs.as_path().map(AsPath::length) == length
-        }
+        Ok(attrs) => attrs.local_pref().is_none() && is_long(attrs.as_path(), length),
         Err(_) => false,
     }
 }
 
-// LOCAL_PREF of an external peer isn't checked. An internal path begins with any AS.
+// Whether the path has this length, or there is none.
+fn is_long(path: Option<&AsPath>, length: Option<u32>) -> bool {
+    match path {
+        Some(path) => length == Some(path.length()),
+        None => length.is_none(),
+    }
+}
+
 #[test]
 fn some_is_not_checked(rt: HostRuntime) {
-    assert!(rt; have(rt.alloc(), &[0xC0, 5, 1, 0], PEER, None, None));
-    assert!(rt; have(rt.alloc(), &[0x40, 2, 0], PeerKind::Internal, None, Some(0)));
-    let other = [0x40, 2, 6, 2, 1, 0, 0, 0, 1];
-    assert!(rt; have(rt.alloc(), &other, PeerKind::Internal, None, Some(1)));
+    for (octets, kind, length) in &UNCHECKED {
+        assert!(rt; have(rt.alloc(), octets, *kind, *length));
+    }
 }
 
 fn has_the_segments(path: &AsPath) -> bool {
@@ -163,12 +173,16 @@ fn is_the_path_with_a_set(path: &AsPath) -> bool {
         && neighbor_as(path, OWN) == Asn(65001)
 }
 
+fn is_path(path: Option<&AsPath>) -> bool {
+    match path {
+        Some(path) => has_the_segments(path) && is_the_path_with_a_set(path),
+        None => false,
+    }
+}
+
 fn is_told_by_its_segments(alloc: Global) -> bool {
     match read_attrs(&alloc, &WITH_A_SET, PEER) {
-        Ok(attrs) => {
-            attrs.as_path().is_some_and(has_the_segments)
-                && attrs.as_path().is_some_and(is_the_path_with_a_set)
-        }
+        Ok(attrs) => is_path(attrs.as_path()),
         Err(_) => false,
     }
 }
@@ -224,9 +238,18 @@ fn is_next_hop_type(it: AttributeType) -> bool {
 
 #[test]
 fn types_have_their_codes(rt: HostRuntime) {
-    assert!(rt; is_next_hop_type(AttributeType::NextHop));
-    let local_pref = AttributeType::LocalPref;
-    assert!(rt; local_pref.is_taken(PeerKind::Internal) && !local_pref.is_taken(PEER));
-    let incomplete = Origin::Incomplete;
-    assert!(rt; Origin::from_octet(2) == Some(incomplete) && incomplete.octet() == 2);
+    assert!(rt;
+        is_next_hop_type(AttributeType::NextHop)
+            && is_internal(AttributeType::LocalPref)
+            && is_origin(Origin::Incomplete, 2)
+    );
+}
+
+// Whether an attribute of this type is taken from internal peers alone.
+fn is_internal(it: AttributeType) -> bool {
+    it.is_taken(PeerKind::Internal) && !it.is_taken(PEER)
+}
+
+fn is_origin(it: Origin, octet: u8) -> bool {
+    Origin::from_octet(octet) == Some(it) && it.octet() == octet
 }

@@ -1,5 +1,6 @@
 //! What a log shows of a NOTIFICATION, and of the text of a shutdown.
 
+use arrayvec::ArrayVec;
 use std::alloc::{AllocError, Global};
 use watched_wires::{Follower, Quoted, SHOWN_OCTETS};
 
@@ -27,13 +28,14 @@ const NOTICES: [(&[u8], &str); 15] = [
 ];
 
 // The message with this body: behind the marker stand its length and its type.
-fn message_of(alloc: Global, body: &[u8]) -> Result<Vec<u8>, AllocError> {
+fn message_of(body: &[u8]) -> ArrayVec<u8, 300> {
     let length = u16::try_from(body.len().saturating_add(19)).unwrap_or(0);
-    let mut message = vec![in alloc; 255; 16]?;
-    message.extend_from_slice(&length.to_be_bytes())?;
-    message.push(3)?;
-    message.extend_from_slice(body)?;
-    Ok(message)
+    let mut message = ArrayVec::new();
+    let _marker = message.try_extend_from_slice(&[255; 16]);
+    let _fits = message.try_extend_from_slice(&length.to_be_bytes());
+    let _fits = message.try_extend_from_slice(&[3]);
+    let _fits = message.try_extend_from_slice(body);
+    message
 }
 
 // What is shown of the message, whose octets come in two pieces, cut there.
@@ -49,7 +51,7 @@ fn shown_of(alloc: Global, message: &[u8], cut: usize) -> Result<String, AllocEr
 
 // Whether so much is shown of the message of this body, wherever it is cut.
 fn is_shown(alloc: Global, body: &[u8], wanted: &str) -> Result<bool, AllocError> {
-    let message = message_of(alloc, body)?;
+    let message = message_of(body);
     for cut in 0..message.len() {
         if shown_of(alloc, message.as_slice(), cut)?.as_str() != wanted {
             return Ok(false);
@@ -65,34 +67,38 @@ fn notifications_are_shown_so(rt: HostRuntime) {
     }
 }
 
-// So many octets of a text, behind that of its length, of a NOTIFICATION 6/2.
-fn body_of(alloc: Global, length: u8, octets: usize) -> Result<Vec<u8>, AllocError> {
-    let mut body = vec![in alloc; b'a'; octets.saturating_add(3)]?;
-    for (at, octet) in [6, 2, length].into_iter().enumerate() {
-        if let Some(place) = body.get_mut(at) {
-            *place = octet;
-        }
-    }
-    Ok(body)
+const LONGEST: [u8; 255] = [b'a'; 255];
+
+const ONE_MORE: [u8; 256] = [b'a'; 256];
+
+// Texts of a NOTIFICATION 6/2 behind the length 255, with what is shown of it at the end, and whether that tells of more: one
+// of 255 octets is shown whole, and of one octet more, which no length tells, the first data alone.
+#[rattlefmt::skip]
+const LONG_TEXTS: [(&[u8], &str, bool); 2] = [
+    (&LONGEST,  "aaaa\"",                 false),
+    (&ONE_MORE, "61 and 225 octets more", true),
+];
+
+// A NOTIFICATION 6/2 with this text behind the length 255.
+fn message_of_text(text: &[u8]) -> ArrayVec<u8, 300> {
+    let mut body: ArrayVec<u8, 260> = ArrayVec::new();
+    let _fits = body.try_extend_from_slice(&[6, 2, 255]);
+    let _fits = body.try_extend_from_slice(text);
+    message_of(body.as_slice())
 }
 
-// Whether the text of 255 octets is shown whole, and of one octet more, which no length tells, the first data alone.
-fn are_long_texts_shown(alloc: Global) -> Result<bool, AllocError> {
-    let longest = body_of(alloc, 255, 255)?;
-    let shown = shown_of(
-        alloc,
-        message_of(alloc, longest.as_slice())?.as_slice(),
-        100,
-    )?;
-    let over = body_of(alloc, 255, 256)?;
-    let cut = shown_of(alloc, message_of(alloc, over.as_slice())?.as_slice(), 100)?;
-    let is_whole = shown.as_str().ends_with("aaaa\"") && !shown.as_str().contains("more");
-    Ok(is_whole && SHOWN_OCTETS == 32 && cut.as_str().ends_with("61 and 225 octets more"))
+// Whether what is shown of a text ends so, and tells of more.
+fn ends(alloc: Global, text: &[u8], end: &str, has_more: bool) -> Result<bool, AllocError> {
+    let message = message_of_text(text);
+    let shown = shown_of(alloc, message.as_slice(), 100)?;
+    Ok(shown.as_str().ends_with(end) && shown.as_str().contains("more") == has_more)
 }
 
 #[test]
 fn a_text_has_255_octets_at_most(rt: HostRuntime) {
-    assert!(rt; are_long_texts_shown(rt.alloc()) == Ok(true));
+    for (text, end, has_more) in &LONG_TEXTS {
+        assert!(rt; SHOWN_OCTETS == 32 && ends(rt.alloc(), text, end, *has_more) == Ok(true));
+    }
 }
 
 #[test]

@@ -73,9 +73,14 @@ fn wants_memory<A: Allocator + Clone>(alloc: &A, body: &[u8], kind: PeerKind) ->
 #[test]
 fn without_a_path_no_memory_is_taken(rt: HostRuntime) {
     for body in &WITHOUT_A_PATH {
-        assert!(rt; read_update(&Nothing, body, PEER).is_ok());
+        assert!(rt; is_read(body));
     }
     assert!(rt; withdraws(Prefix::new(0x0A00_0100, 24).ok()));
+}
+
+// Whether the UPDATE of this body is read where no memory is.
+fn is_read(body: &[u8]) -> bool {
+    read_update(&Nothing, body, PEER).is_ok()
 }
 
 // Whether the withdrawal is read, and names this prefix.
@@ -86,18 +91,29 @@ fn withdraws(prefix: Option<Prefix>) -> bool {
     }
 }
 
+// Bodies that want memory, and the kind of peer that they come from: the path of the last one is empty.
+const WANTING: [(&[u8], PeerKind); 4] = [
+    (&ANNOUNCEMENT, PEER),
+    (&WITHOUT_NEXT_HOP, PEER),
+    (&WITH_UNKNOWN, PEER),
+    (&[0, 0, 0, 3, 0x40, 2, 0], PeerKind::Internal),
+];
+
 #[test]
 fn a_path_wants_memory(rt: HostRuntime) {
-    assert!(rt; wants_memory(&Nothing, &ANNOUNCEMENT, PEER));
-    assert!(rt; wants_memory(&Nothing, &WITHOUT_NEXT_HOP, PEER));
-    assert!(rt; wants_memory(&Nothing, &WITH_UNKNOWN, PEER));
-    assert!(rt; wants_memory(&Nothing, &[0, 0, 0, 3, 0x40, 2, 0], PeerKind::Internal));
+    for (body, kind) in &WANTING {
+        assert!(rt; wants_memory(&Nothing, body, *kind));
+    }
 }
+
+// Bodies, and the number that their requests exceed.
+const REQUESTING: [(&[u8], u64); 2] = [(&ANNOUNCEMENT, 3), (&WITH_UNKNOWN, 1)];
 
 #[test]
 fn each_refused_request_is_told(rt: HostRuntime) {
-    assert!(rt; is_told_each_time(&rt, &ANNOUNCEMENT, 3));
-    assert!(rt; is_told_each_time(&rt, &WITH_UNKNOWN, 1));
+    for (body, few) in &REQUESTING {
+        assert!(rt; is_told_each_time(&rt, body, *few));
+    }
 }
 
 // Whether each refused request of this body, of which there are more than so many, is told, and without one none is.

@@ -9,15 +9,17 @@ use vrp_csv::{CsvFault, RowFault, read_list};
 const ROWS: &str =
     "ASN,IP Prefix,Max Length,Trust Anchor,Expires\r\nAS1,10.0.0.0/8,9,ta,0\r\n\r\nAS2,10.0.0.0/8,9,ta,";
 
-// How many rows a list has, and how many payloads.
-fn counts(alloc: Global, list: &str) -> Option<(u64, usize)> {
-    let loaded = read_list(alloc, list.as_bytes()).ok()?;
-    Some((loaded.rows, loaded.set.len()))
+// Whether a list has two rows, and two payloads.
+fn has_two_rows(alloc: Global, list: &str) -> bool {
+    match read_list(alloc, list.as_bytes()) {
+        Ok(loaded) => loaded.rows == 2 && loaded.set.len() == 2,
+        Err(_) => false,
+    }
 }
 
 #[test]
 fn rows_end_as_lines_do(rt: HostRuntime) {
-    assert!(rt; counts(rt.alloc(), ROWS) == Some((2, 2)));
+    assert!(rt; has_two_rows(rt.alloc(), ROWS));
 }
 
 // A device that gives its octets one by one, and then fails.

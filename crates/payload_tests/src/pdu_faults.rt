@@ -135,7 +135,11 @@ fn intervals_are_lawful_within_their_bounds(rt: HostRuntime) {
     for (refresh, retry, expire, lawful) in &INTERVALS {
         assert!(rt; are_lawful(*refresh, *retry, *expire) == *lawful);
     }
-    assert!(rt; Intervals::default() == Intervals::USUAL && Intervals::USUAL.are_lawful());
+    assert!(rt; are_usual(Intervals::default()));
+}
+
+fn are_usual(intervals: Intervals) -> bool {
+    intervals == Intervals::USUAL && intervals.are_lawful()
 }
 
 // In the order of their numbers, from 0 on.
@@ -158,12 +162,14 @@ fn codes_are_those_of_the_rfc(rt: HostRuntime) {
     }
 }
 
+const NOTIFY_OF_VERSION_0: [u8; 12] = [0, 0, 0, 7, 0, 0, 0, 12, 0, 0, 0, 9];
+
+// Whether the octets are read as a Serial Notify before the first response.
+fn is_whole(octets: &[u8], session: u16, serial: u32) -> bool {
+    read(octets, AT_CLIENT) == Step::Whole(Pdu::SerialNotify { session, serial }, octets.len())
+}
+
 #[test]
 fn a_notify_is_read_in_any_version_before_the_first_response(rt: HostRuntime) {
-    let octets = [0, 0, 0, 7, 0, 0, 0, 12, 0, 0, 0, 9];
-    let notify = Pdu::SerialNotify {
-        session: 7,
-        serial: 9,
-    };
-    assert!(rt; read(&octets, AT_CLIENT) == Step::Whole(notify, 12));
+    assert!(rt; is_whole(&NOTIFY_OF_VERSION_0, 7, 9));
 }

@@ -13,8 +13,8 @@ const RESPONSE: [u8; 72] = [
     0, 0, 0, 18, 0, 0, 0x0E, 0x10, 0, 0, 2, 0x58, 0, 0, 0x1C, 0x20,
 ];
 
-// Where the PDUs of the response begin.
-const BEGINNINGS: [usize; 4] = [0, 8, 28, 48];
+// Where PDUs of the response end that another one follows.
+const ENDS: [usize; 3] = [8, 28, 48];
 
 // Whether the octets are written for the PDU.
 fn is_written(octets: &[u8], pdu: Pdu<'_>) -> bool
@@ -52,9 +52,28 @@ fn is_read(octets: &[u8], pdu: Pdu<'_>) -> bool {
 
 const SESSION: u16 = 7;
 
-// PDUs without a payload, in octets.
+// 10.0.2.0/24-24 and 10.0.18.0/24-24 of AS 65002.
+const LEAVES: Vrp = Vrp {
+    prefix: Prefix {
+        bits: 0x0A00_0200,
+        len: 24,
+    },
+    max_len: 24,
+    asn: Asn(65002),
+};
+
+const COMES: Vrp = Vrp {
+    prefix: Prefix {
+        bits: 0x0A00_1200,
+        len: 24,
+    },
+    max_len: 24,
+    asn: Asn(65002),
+};
+
+// PDUs in octets: those without a payload, and the payloads of the response.
 #[rattlefmt::skip]
-const PDUS: [(&[u8], Pdu<'static>); 6] = [
+const PDUS: [(&[u8], Pdu<'static>); 8] = [
     (&[1, 0, 0, 7, 0, 0, 0, 12, 0, 0, 0, 9], Pdu::SerialNotify { session: SESSION, serial: 9 }),
     (&[1, 1, 0, 7, 0, 0, 0, 12, 0, 0, 0, 9], Pdu::SerialQuery { session: SESSION, serial: 9 }),
     (&[1, 2, 0, 0, 0, 0, 0, 8],              Pdu::ResetQuery),
@@ -62,56 +81,57 @@ const PDUS: [(&[u8], Pdu<'static>); 6] = [
     (&[1, 3, 0, 7, 0, 0, 0, 8],              Pdu::CacheResponse { session: SESSION }),
     (&[1, 7, 0, 7, 0, 0, 0, 24, 0, 0, 0, 18, 0, 0, 0x0E, 0x10, 0, 0, 2, 0x58, 0, 0, 0x1C, 0x20],
         Pdu::EndOfData { session: SESSION, serial: 18, intervals: Intervals::USUAL }),
+    (&[1, 4, 0, 0, 0, 0, 0, 20, 0, 24, 24, 0, 10, 0, 2, 0, 0, 0, 0xFD, 0xEA],  Pdu::Withdrawal(LEAVES)),
+    (&[1, 4, 0, 0, 0, 0, 0, 20, 1, 24, 24, 0, 10, 0, 18, 0, 0, 0, 0xFD, 0xEA], Pdu::Announcement(COMES)),
 ];
-
-// Whether the octets are read as a payload of AS 65002 that comes or leaves, of the prefix of this address and 24 bits.
-fn is_payload(octets: &[u8], bits: u32, comes: bool) -> bool {
-    let Ok(prefix) = Prefix::new(bits, 24) else {
-        return false;
-    };
-    match Vrp::new(prefix, 24, Asn(65002)) {
-        Ok(it) if comes => is_read(octets, Pdu::Announcement(it)),
-        Ok(it) => is_read(octets, Pdu::Withdrawal(it)),
-        Err(_) => false,
-    }
-}
 
 #[test]
 fn a_pdu_is_read_whatever_follows(rt: HostRuntime) {
     for (octets, pdu) in &PDUS {
-        assert!(rt; is_read(octets, *pdu), "{octets:?}");
+        assert!(rt; is_read(octets, *pdu));
     }
-    assert!(rt; is_payload(&RESPONSE[8..28], 0x0A00_0200, false));
-    assert!(rt; is_payload(&RESPONSE[28..48], 0x0A00_1200, true));
 }
 
-const REPORT: [u8; 24] = [
-    1, 10, 0, 2, 0, 0, 0, 24, 0, 0, 0, 8, 1, 2, 0, 0, 0, 0, 0, 8, 0, 0, 0, 0,
+// Error Reports: their octets, code, and PDU that they quote. The second one tells more than is there.
+#[rattlefmt::skip]
+const REPORTS: [(&[u8], u16, &[u8]); 2] = [
+    (&[1, 10, 0, 2, 0, 0, 0, 24, 0, 0, 0, 8, 1, 2, 0, 0, 0, 0, 0, 8, 0, 0, 0, 0], 2, &[1, 2, 0, 0, 0, 0, 0, 8]),
+    (&[1, 10, 0, 0, 0, 0, 0, 17, 0, 0, 0, 99, 1, 2, 3, 4, 5],                    0, &[1, 2, 3, 4, 5]),
 ];
 
-// A report that tells more than is there.
-const SHORT_REPORT: [u8; 17] = [1, 10, 0, 0, 0, 0, 0, 17, 0, 0, 0, 99, 1, 2, 3, 4, 5];
+fn is_report(octets: &[u8], code: u16, quoted: &[u8]) -> bool {
+    is_read(octets, Pdu::ErrorReport { code, quoted })
+}
 
 #[test]
 fn reports_quote_the_pdu_at_fault(rt: HostRuntime) {
-    let code = 2;
-    let quoted = &REPORT[12..20];
-    assert!(rt; is_read(&REPORT, Pdu::ErrorReport { code, quoted }));
-    let code = 0;
-    let quoted = &SHORT_REPORT[12..];
-    assert!(rt; is_read(&SHORT_REPORT, Pdu::ErrorReport { code, quoted }));
+    for (octets, code, quoted) in &REPORTS {
+        assert!(rt; is_report(octets, *code, quoted));
+    }
+}
+
+const IPV6_PREFIX: [u8; 32] = [
+    1, 6, 0, 0, 0, 0, 0, 32, 0, 0, 0, 0, 0, 0, 0, 0, 0, 0, 0, 0, 0, 0, 0, 0, 0, 0, 0, 0, 0, 0, 0, 0,
+];
+
+const ROUTER_KEY: [u8; 40] = [
+    1, 9, 0, 0, 0, 0, 0, 40, 9, 9, 9, 9, 9, 9, 9, 9, 9, 9, 9, 9, 9, 9, 9, 9, 9, 9, 9, 9, 9, 9, 9,
+    9, 9, 9, 9, 9, 9, 9, 9, 9,
+];
+
+fn is_ipv6_prefix(octets: &[u8], body: &[u8; 24]) -> bool {
+    let pdu = Pdu::Ipv6Prefix(body);
+    is_written(octets, pdu) && is_read(octets, pdu)
+}
+
+fn is_router_key(octets: &[u8], body: &[u8; 32]) -> bool {
+    let pdu = Pdu::RouterKey(body);
+    is_written(octets, pdu) && is_read(octets, pdu)
 }
 
 #[test]
 fn unread_bodies_are_carried(rt: HostRuntime) {
-    let mut prefix = [0; 32];
-    prefix[..8].copy_from_slice(&[1, 6, 0, 0, 0, 0, 0, 32]);
-    let pdu = Pdu::Ipv6Prefix(&prefix[8..]);
-    assert!(rt; is_written(&prefix, pdu) && is_read(&prefix, pdu));
-    let mut key = [9; 40];
-    key[..8].copy_from_slice(&[1, 9, 0, 0, 0, 0, 0, 40]);
-    let pdu = Pdu::RouterKey(&key[8..]);
-    assert!(rt; is_written(&key, pdu) && is_read(&key, pdu));
+    assert!(rt; is_ipv6_prefix(&IPV6_PREFIX, &[0; 24]) && is_router_key(&ROUTER_KEY, &[9; 32]));
 }
 
 // The PDUs that a receiver finds in pieces that come one after the other, and how many octets it keeps.
@@ -129,6 +149,17 @@ fn received(receiver: &mut Receiver, octets: &[u8]) -> usize {
     count
 }
 
+// How many of those PDUs end there or before.
+fn count_before(cut: usize) -> usize {
+    let mut count = 0usize;
+    for end in &ENDS {
+        if *end <= cut {
+            count = count.saturating_add(1);
+        }
+    }
+    count
+}
+
 // Whether a receiver finds each PDU in the piece that holds its last octet.
 fn is_found_whole(cut: usize) -> bool
     requires { cut ≤ 72 }
@@ -137,14 +168,7 @@ fn is_found_whole(cut: usize) -> bool
     let (front, rest) = RESPONSE.split_at(cut);
     let first = received(&mut receiver, front);
     let second = received(&mut receiver, rest);
-    first
-        == BEGINNINGS
-            .iter()
-            .skip(1)
-            .filter(|begin| **begin <= cut)
-            .count()
-        && first.saturating_add(second) == 4
-        && receiver.octets().is_empty()
+    first == count_before(cut) && first.saturating_add(second) == 4 && receiver.octets().is_empty()
 }
 
 #[test]
@@ -158,19 +182,18 @@ fn a_stream_has_its_pdus_however_it_is_cut(rt: HostRuntime) {
 fn a_receiver_goes_on_behind_a_pdu_that_was_read_whole(rt: HostRuntime) {
     let mut receiver = Receiver::new(End::Client);
     receiver.pass_whole(&Pdu::CacheResponse { session: 7 });
-    let place = Place {
-        end: End::Client,
-        is_first: false,
-        has_response: true,
-    };
-    assert_eq!(rt; receiver.place(), place);
-    assert!(rt; receiver.octets().is_empty());
+    assert!(rt; receiver.place() == LATER && receiver.octets().is_empty());
 }
+
+// A PDU of a type that isn't there, and its header.
+const FAULTY: [u8; 12] = [1, 5, 0, 0, 0, 0, 0, 12, 1, 2, 3, 4];
+
+const FAULTY_HEADER: [u8; 8] = [1, 5, 0, 0, 0, 0, 0, 12];
 
 // Whether a receiver shows a fault with its octets, until it is cleared.
 fn shows_a_fault(receiver: &mut Receiver) -> bool {
-    let taken = receiver.push(&[1, 5, 0, 0, 0, 0, 0, 12, 1, 2, 3, 4]);
-    let is_kept = receiver.octets() == [1, 5, 0, 0, 0, 0, 0, 12].as_slice();
+    let taken = receiver.push(&FAULTY);
+    let is_kept = receiver.octets() == FAULTY_HEADER.as_slice();
     let is_faulty = matches!(receiver.front(), Step::Faulty(..));
     receiver.clear();
     taken == 8 && is_kept && is_faulty && receiver.octets().is_empty()

@@ -103,6 +103,7 @@ fn covers_address(text: &str, address: u32) -> Option<bool> {
     Some(Prefix::parse(text).ok()?.covers_address(address))
 }
 
+// Prefixes, and whether 10.0.0.0/16 covers them.
 const COVERED: [(&str, bool); 4] = [
     ("10.0.0.0/16", true),
     ("10.0.1.0/24", true),
@@ -110,13 +111,17 @@ const COVERED: [(&str, bool); 4] = [
     ("10.0.0.0/15", false),
 ];
 
+// Addresses, and whether 10.0.0.0/16 covers them.
+const COVERED_ADDRESSES: [(u32, bool); 2] = [(0x0A00_FFFF, true), (0x0A01_0000, false)];
+
 #[test]
 fn a_prefix_covers_its_own_addresses(rt: HostRuntime) {
     for (inner, is_covered) in &COVERED {
         assert!(rt; covers("10.0.0.0/16", inner) == Some(*is_covered));
     }
-    assert!(rt; covers_address("10.0.0.0/16", 0x0A00_FFFF) == Some(true));
-    assert!(rt; covers_address("10.0.0.0/16", 0x0A01_0000) == Some(false));
+    for (address, is_covered) in &COVERED_ADDRESSES {
+        assert!(rt; covers_address("10.0.0.0/16", *address) == Some(*is_covered));
+    }
 }
 
 // Payloads in their order: a prefix, a maximum length and an AS.
@@ -191,13 +196,17 @@ fn a_maximum_length_lies_between_the_prefix_length_and_32(rt: HostRuntime) {
     }
 }
 
+const NUMBERS: [(PrefixFault, u8); 5] = [
+    (PrefixFault::LenOver32, 1),
+    (PrefixFault::HostBits, 2),
+    (PrefixFault::Text, 3),
+    (PrefixFault::MaxRange, 4),
+    (PrefixFault::Cut, 9),
+];
+
 #[test]
 fn faults_have_their_numbers(rt: HostRuntime) {
-    assert!(rt;
-        PrefixFault::LenOver32.number() == 1
-            && PrefixFault::HostBits.number() == 2
-            && PrefixFault::Text.number() == 3
-            && PrefixFault::MaxRange.number() == 4
-            && PrefixFault::Cut.number() == 9
-    );
+    for (fault, number) in &NUMBERS {
+        assert!(rt; fault.number() == *number);
+    }
 }

@@ -131,11 +131,15 @@ fn a_bad_delta_leaves_the_set(rt: HostRuntime) {
     );
 }
 
+const NUMBERS: [(DeltaFault, u8); 3] = [
+    (DeltaFault::NoMemory, 5),
+    (DeltaFault::Unknown, 6),
+    (DeltaFault::Duplicate, 7),
+];
+
 #[test]
 fn faults_of_a_delta_have_their_numbers(rt: HostRuntime) {
-    assert!(rt;
-        DeltaFault::NoMemory.number() == 5
-            && DeltaFault::Unknown.number() == 6
-            && DeltaFault::Duplicate.number() == 7
-    );
+    for (fault, number) in &NUMBERS {
+        assert!(rt; fault.number() == *number);
+    }
 }
