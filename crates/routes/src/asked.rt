@@ -6,12 +6,12 @@ ghost use Rattle.rib_in.specs.LatestRoutes.{route_at};
 ghost use Rattle.routing.specs.Offers.{IsOffer};
 ghost use Rattle.routing.specs.RoutesState.{payloads_in_force, tables_in};
 
-use routing::remade_at;
 use crate::routes::Routes;
 use bgp_attr::Attrs;
 use decision::{Book, Candidate, LOCAL_SLOT};
 use net_prefix::{Asn, Prefix};
 use origin_valid::Validity;
+use routing::remade_at;
 use std::alloc::Allocator;
 
 impl<A: Allocator + Clone, B: Book<A>> Routes<A, B> {

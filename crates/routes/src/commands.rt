@@ -19,8 +19,6 @@ ghost use Rattle.routing.specs.Offers.{AreMadeAgain, AreMadeWhere};
 ghost use Rattle.routing.specs.RoutesState.{BringsNetwork, IsSet, StaysAsIs, tables_in};
 ghost use Rattle.routing.specs.Tables.{link_at};
 
-use routing::{choose_again, choose_slot, judge_network};
-use routing::Link;
 use crate::routes::Routes;
 use bgp_attr::Attrs;
 use bgp_conf::{Command, PeerConf};
@@ -28,6 +26,7 @@ use bgp_fsm::PeerTimers;
 use bgp_msg::OwnOpen;
 use decision::{Book, LOCAL_SLOT};
 use net_prefix::Prefix;
+use routing::{Link, choose_again, choose_slot, judge_network};
 use std::alloc::{AllocError, Allocator};
 use std::collections::BTreeMap;
 use std::rc::Rc;

@@ -7,13 +7,13 @@ ghost use Rattle.routes.specs.Commands.{TurnsAssertion, TurnsFilter};
 ghost use Rattle.routing.specs.RoutesState.{ObeysExceptions};
 ghost use Rattle.routing.specs.Tables.{payloads_under};
 
-use routing::{choose_turned, choose_within};
 use crate::routes::Routes;
 use bgp_conf::{Command, Conf};
 use decision::Book;
 use local_exceptions::Filter;
 use net_prefix::Vrp;
 use origin_valid::PayloadTrie;
+use routing::{choose_turned, choose_within};
 use std::alloc::{AllocError, Allocator};
 use std::collections::BTreeSet;
 

@@ -15,13 +15,13 @@ ghost use Rattle.routing.specs.Places.{rank_of};
 ghost use Rattle.routing.specs.RoutesState.{export_of};
 ghost use Rattle.routing.specs.Tables.{link_at};
 
-use routing::{Octets, place};
 use crate::routes::Routes;
 use arrayvec::ArrayVec;
 use decision::Book;
 use export_rules::ExportPeer;
 use net_prefix::Prefix;
 use rib_out::Owed;
+use routing::{Octets, place};
 use std::alloc::Allocator;
 
 /// The octets that an UPDATE has for prefixes and attributes: 4,096 without 19 of the header and 4 of the two lengths.

@@ -16,14 +16,13 @@ ghost use Rattle.routing.specs.RoutesState.{TellsSlot, export_of};
 ghost use Rattle.routing.specs.Tables.{link_at};
 ghost use Rattle.routing.specs.Told.{HasRoom, update_saying};
 
-use routing::Octets;
 use crate::packing::Draft;
 use crate::routes::Routes;
-use routing::{announce, withdraw};
 use decision::Book;
 use export_rules::ExportPeer;
 use net_prefix::Prefix;
 use rib_out::Owed;
+use routing::{Octets, announce, withdraw};
 use std::alloc::{AllocError, Allocator};
 
 impl<A: Allocator + Clone, B: Book<A>> Routes<A, B> {

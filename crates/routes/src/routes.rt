@@ -23,11 +23,6 @@ ghost use Rattle.routing.specs.RoutesState.{begun, tables_in};
 ghost use Rattle.routing.specs.Tables.{best_at, link_at};
 ghost use Rattle.routing.specs.Waiting.{waiting_at};
 
-use routing::choose_touched;
-use routing::{Octets, export, export_peer};
-use routing::Link;
-use routing::{Links, Routing, slots_end};
-use routing::WaitingPrefixes;
 use bgp_conf::Conf;
 use decision::Book;
 use export_rules::ExportPeer;
@@ -36,6 +31,9 @@ use net_prefix::{Asn, Prefix};
 use origin_valid::PayloadTrie;
 use rib_in::SlotRoutes;
 use rib_out::{RecentOctets, UndoLog};
+use routing::{
+    Link, Links, Octets, Routing, WaitingPrefixes, choose_touched, export, export_peer, slots_end,
+};
 use std::alloc::{AllocError, Allocator};
 use std::collections::BTreeMap;
 use std::marker::Model;

@@ -20,14 +20,11 @@ ghost use Rattle.routing.specs.RoutesState.{IsSet, StaysKept, TakesInput};
 ghost use Rattle.routing.specs.Tables.{link_at};
 ghost use Rattle.routing.specs.Updates.{sound_update};
 
-use routing::Octets;
-use routing::{Standard, take_front};
 use crate::routes::Routes;
-use routing::{Links, Routing};
-use routing::Sender;
 use bgp_conf::Conf;
 use bgp_fsm::{Effects, Input};
 use decision::Book;
+use routing::{Links, Octets, Routing, Sender, Standard, take_front};
 use std::alloc::{AllocError, Allocator};
 
 impl<A: Allocator + Clone, B: Book<A>> Routes<A, B> {

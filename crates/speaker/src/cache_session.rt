@@ -14,11 +14,11 @@ ghost use Rattle.runs.specs.declared.config.Config.{Config as TheConfig};
 ghost use Rattle.rtr_session.specs.SessionHistory as cached;
 ghost use Rattle.vrp_delta.specs.Delta.{change_between};
 
-use runs::Config;
 use crate::step::Speaker;
 use decision::Book;
 use net_prefix::Transport;
 use rtr_session::CacheSession;
+use runs::Config;
 use std::alloc::{AllocError, Allocator};
 
 impl<A: Allocator + Clone, B: Book<A>> Speaker<A, B> {

@@ -18,13 +18,13 @@ ghost use Rattle.runs.specs.Agreement.{Holds};
 ghost use Rattle.runs.specs.declared.config.Config.{Config as TheConfig};
 ghost use Rattle.routing.specs.Tables.{link_at};
 
-use runs::slot_bit;
 use crate::step::Speaker;
 use bgp_conf::{Command, PeerConf};
 use bgp_fsm::Input;
 use bgp_msg::OwnOpen;
 use decision::Book;
 use net_prefix::Prefix;
+use runs::slot_bit;
 use std::alloc::{AllocError, Allocator};
 
 impl<A: Allocator + Clone, B: Book<A>> Speaker<A, B> {

@@ -1,28 +1,27 @@
 //! The speaker: octets, losses of connection and commands in; the octets for each session and the tables out.
 //!
-//! One call of `Speaker::step` judges its event, updates the tables, chooses the routes of Loc-RIB again
-//! (RFC 4271 section 9.1) and queues to each Established peer the UPDATEs that it is owed. `Speaker::take`
-//! hands a peer's octets out. There is no clock and no socket in here: a list of calls is all that happens, and a timer
-//! ends when a moment is handed in.
+//! One call of `Speaker::step` judges its event, updates the tables, chooses the routes of Loc-RIB again (RFC 4271 section
+//! 9.1) and queues to each Established peer the UPDATEs that it is owed. `Speaker::take` hands a peer's octets out. There
+//! is no clock and no socket in here: a list of calls is all that happens, and a timer ends when a moment is handed in.
 //!
 //! **Parts.** `Routes` of routes (configuration, payloads by prefix, each slot's session with what its peer was sent, the
 //! routes with Loc-RIB, and what each peer is owed), the session with a cache (rtr_session), and a moment.
 //!
-//! **The way of an event.** `step` asks for its first refusal (`check`); one that is refused changes nothing. Then, by
-//! what it is: octets are cut into messages and each is taken whole (`hear`, `take_message`: what it is to the session, and
-//! what its UPDATE makes of the routes, is said by `Routes::judge_front`); a session takes an input, and its routes follow
+//! **The way of an event.** `step` asks for its first refusal (`check`); one that is refused changes nothing. Then, by what
+//! it is: octets are cut into messages and each is taken whole (`hear`, `take_message`: what it is to the session, and what
+//! its UPDATE makes of the routes, is said by `Routes::judge_front`); a session takes an input, and its routes follow
 //! (`input`); what comes to the cache session changes payloads, and the routes that they concern are judged again
-//! (`choose_touched`); a command changes the tables (`obey`), one of local exceptions the payloads in force too. At the end of each call the peers are queued what they are
-//! owed, slot by slot in rising order (`queue_updates`); where memory is refused to that, the slot's session is closed and
-//! the pass begins again.
+//! (`choose_touched`); a command changes the tables (`obey`), one of local exceptions the payloads in force too. A moment
+//! ends the cache session's timers, then each slot's (`tick`, `end_timers`). At the end of each call the peers are queued
+//! what they are owed, slot by slot in rising order (`queue_updates`); where memory is refused to that, the slot's session
+//! is closed and the pass begins again.
 //!
 //! **What holds when.** Between calls and in their midst: routes are judged by the payloads that the cache session has
-//! loaded, under the local exceptions (the type's invariant; that of `Routes` has the rest). After each thing that happens in a call: all is as the run
-//! with what the call has done so far leaves it (`Holds`). After the call: Loc-RIB is the selection, and where a ring has
-//! room its peer holds its export (`Agrees`).
+//! loaded, under the local exceptions (the type's invariant; that of `Routes` has the rest). After each thing that happens
+//! in a call: all is as the run with what the call has done so far leaves it (`Holds`). After the call: Loc-RIB is the
+//! selection, and where a ring has room its peer holds its export (`Agrees`).
 //!
-//! To read first: the definitions `Runs` (calls and histories), `Agreement` (what is promised of them), then `step` and
-//! `queue`.
+//! To read first: runs (calls and histories, and what is promised of them), then `step` and `queue`.
 #![tactic(auto)]
 
 mod asked;

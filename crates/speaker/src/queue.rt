@@ -18,7 +18,6 @@ ghost use Rattle.routing.specs.Owing.{IsNext, announced_of, withdrawn_of};
 ghost use Rattle.routing.specs.Told.{HasRoom};
 ghost use Rattle.routing.specs.Tables.{link_at};
 
-use runs::slot_bit;
 use crate::step::Speaker;
 use bgp_fsm::Input;
 use bgp_peer::ROOM_FOR_UPDATE;
@@ -27,6 +26,7 @@ use export_rules::ExportPeer;
 use net_prefix::Prefix;
 use routes::Draft;
 use routing::{Octets, place};
+use runs::slot_bit;
 use std::alloc::{AllocError, Allocator};
 
 impl<A: Allocator + Clone, B: Book<A>> Speaker<A, B> {

@@ -12,8 +12,6 @@ ghost use Rattle.routing.specs.Linked.{Linked};
 ghost use Rattle.runs.specs.Queueing.{Queue, starved_in};
 
 use crate::cache_session::session_for;
-use runs::Config;
-use runs::{Event, Report, slot_bit};
 use bgp_conf::{Command, PEER_SLOTS, Refusal};
 use bgp_fsm::Input;
 use decision::Book;
@@ -21,6 +19,7 @@ use live_book::LiveBook;
 use net_prefix::{Asn, Transport};
 use routes::Routes;
 use rtr_session::CacheSession;
+use runs::{Config, Event, Report, slot_bit};
 use std::alloc::{AllocError, Allocator, Global};
 use std::marker::Model;
 
@@ -289,7 +288,9 @@ impl<A: Allocator + Clone, B: Book<A>> Speaker<A, B> {
         ensures { result ≡ closing_for (tables_of self.now) command.now }
     {
         match *command {
-            Command::AddPeer(slot, _) if slot < PEER_SLOTS && self.is_closing(slot) => slot_bit(slot),
+            Command::AddPeer(slot, _) if slot < PEER_SLOTS && self.is_closing(slot) => slot_bit(
+                slot,
+            ),
             _ => 0,
         }
     }

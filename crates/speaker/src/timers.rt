@@ -5,11 +5,11 @@ ghost use Rattle.runs.specs.Agreement.{EndsAll, EndsTimers, Holds};
 ghost use Rattle.runs.specs.Runs.{Run, Tick_call, report_of, turn};
 ghost use Rattle.runs.specs.declared.config.Config.{Config as TheConfig};
 
-use runs::{Report, slot_bit};
 use crate::step::Speaker;
 use bgp_conf::PEER_SLOTS;
 use bgp_fsm::{Input, Timer};
 use decision::Book;
+use runs::{Report, slot_bit};
 use std::alloc::Allocator;
 
 impl<A: Allocator + Clone, B: Book<A>> Speaker<A, B> {

@@ -3,12 +3,11 @@ ghost use Rattle.std.specs.Prelude.{◌≡◌, ◌⊎◌, ◌↔◌, true, IfErr
 ghost use Rattle.runs.specs.Played.{IsPlayed};
 ghost use Rattle.runs.specs.SpeakerState.{is_out_of_range};
 
-use runs::Config;
-use runs::{Event, Report};
 use crate::step::Speaker;
 use bgp_conf::Refusal;
 use decision::Book;
 use live_book::LiveBook;
+use runs::{Config, Event, Report};
 use std::alloc::{Allocator, Global};
 
 /// The answers to a list of events, and the speaker after them.
