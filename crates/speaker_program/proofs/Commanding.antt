@@ -2,6 +2,7 @@
 use Rattle.std.proofs.Common.{◌≡◌, List, ℕ, [], OnOk, Option, Some, Result, Ok, Err, ap, append-nil, subst, sym}
 use Rattle.std.specs.Result.{IsErrAnd}
 use Rattle.file_paths.specs.OpenedFiles.{AreOctetsOf}
+use Rattle.local_exceptions.specs.ExceptionSets.{ExceptionSets}
 use Rattle.scenario.specs.CommandFaults.{IsOutside}
 use Rattle.scenario.specs.FileLines.{lines}
 use Rattle.scenario.specs.ObeyedCommands.{Obeys, ObeysBefore}
@@ -10,6 +11,7 @@ use Rattle.scenario.specs.declared.commands.CommandsFault.TheVariants.{BadLine, 
 use Rattle.runs.specs.Agreement.{Agrees}
 use Rattle.runs.specs.SpeakerState.{SpeakerState}
 use Rattle.runs.specs.declared.config.Config.{Config}
+use Rattle.speaker_exceptions.specs.ObeyedExceptions.{Obeys as ObeysExceptions, commands_of}
 use Rattle.speaker_program.specs.Commanded.{IsCommanded, IsCommandedBy, ObeysText}
 use Rattle.speaker_program.specs.Endings.{IsUnread}
 use Rattle.speaker_program.specs.declared.fault.SpeakerFault.{SpeakerFault}
@@ -36,8 +38,9 @@ pub unread_commands : (on : List (List ℕ)) (result : Result (Unit {0}) Speaker
 unread_commands on (Ok done) ends old new is unread = absurd is
 unread_commands on (Err other) ends old new is unread = let u = subst IsUnread (sym is) unread in (u.0, u.1, before_none on u.0 old new u.2)
 
--- behind them the speaker is as they leave one that has obeyed none
-pub commanded_by : (text : Option (List ℕ)) (config : Config) (old new : SpeakerState) → Agrees config [] old → ObeysText text old new → IsCommanded text config new
-commanded_by text config old new agrees obeys =
-    let more = obeys.2 config [] agrees in
-    (obeys.0, more.0, obeys.1, more.1, rw append-nil at more.2)
+-- behind exceptions and them the speaker is as they leave one that has obeyed none
+pub commanded_by : (exceptions : ExceptionSets) (text : Option (List ℕ)) (config : Config) (old mid new : SpeakerState) → Agrees config [] old → ObeysExceptions (commands_of exceptions) old mid → ObeysText text mid new → IsCommanded exceptions text config new
+commanded_by exceptions text config old mid new agrees excepts obeys =
+    let first = excepts config [] agrees in
+    let more = obeys.2 config first.0 (rw append-nil at first.2) in
+    (obeys.0, first.0, more.0, first.1, obeys.1, more.1, more.2)

@@ -9,6 +9,8 @@ use Rattle.program_endings.specs.declared.fault.ExitFault.{ExitFault}
 use Rattle.program_endings.specs.declared.fault.ExitFault.TheVariants.{Arguments, Settings, BadLine, RefusedLine, Device}
 use Rattle.speaker_program.proofs.AskedBefore.{asked_before}
 use Rattle.speaker_program.specs.Begun.{AreOperatorsOf, AttendsOperators, AttendsSocket, IsServed, TakesTurnsOf, has_commands, patience_of}
+use Rattle.slurm_files.specs.SlurmDocument.{Said}
+use Rattle.speaker_program.specs.Commanded.{AreSaidOf}
 use Rattle.speaker_program.specs.HeldBack.{waits}
 use Rattle.speaker_program.specs.Checked.{IsChecked, IsCheckedBy}
 use Rattle.speaker_program.specs.Endings.{EndsSo, status_at_end}
@@ -40,18 +42,25 @@ served_so (Err fault) ended ends zero is = absurd (never_zero (exit_of_fault fau
 abbrev Attending : Type 1
 Attending = SpeakerSettings → ℕ → List ℕ → List ℕ → Turns → Turns → Type 0
 
--- what is known of texts, of wires and of operators may be said more weakly
-pub served_as : (Told Tells : Option (List ℕ) → Type 0) (Opened Opens : WireState → Type 0) (Attended Attends : Attending) (settings : SpeakerSettings) (count : ℕ) (before behind : List ℕ) (turns : Turns) → IsServed Told Opened Attended settings count before behind turns
-    → ((text : Option (List ℕ)) → Told text → Tells text) → ((wire : WireState) → Opened wire → Opens wire) → ((old new : Turns) → Attended settings count before behind old new → Attends settings count before behind old new) → IsServed Tells Opens Attends settings count before behind turns
+-- what is known of texts may be said more weakly
+pub said_as : (Told Tells : List ℕ → Option (List ℕ) → Type 0) (slurm : Option (String Global)) (said : Said) → AreSaidOf Told slurm said → ((path : List ℕ) (text : Option (List ℕ)) → Told path text → Tells path text) → AreSaidOf Tells slurm said
+said_as Told Tells None said is tells = is
+said_as Told Tells (Some path) said is tells = (is.0, tells (string_bytes path) is.0 is.1, is.2)
+
+-- and so may what is known of texts, of wires and of operators
+pub served_as : (Told Tells : List ℕ → Option (List ℕ) → Type 0) (Opened Opens : WireState → Type 0) (Attended Attends : Attending) (settings : SpeakerSettings) (count : ℕ) (before behind : List ℕ) (turns : Turns) → IsServed Told Opened Attended settings count before behind turns
+    → ((path : List ℕ) (text : Option (List ℕ)) → Told path text → Tells path text) → ((wire : WireState) → Opened wire → Opens wire) → ((old new : Turns) → Attended settings count before behind old new → Attends settings count before behind old new) → IsServed Tells Opens Attends settings count before behind turns
 served_as Told Tells Opened Opens Attended Attends settings count before behind turns is tells opens attends =
     record {
       begun = is.begun;
       begins =
           record {
             speaker = is.begins.speaker;
+            said = is.begins.said;
             text = is.begins.text;
             wire = is.begins.wire;
-            told = tells is.begins.text is.begins.told;
+            excepted = said_as Told Tells settings.slurm is.begins.said is.begins.excepted tells;
+            told = tells (string_bytes settings.commands) is.begins.text is.begins.told;
             opened = opens is.begins.wire is.begins.opened;
             commanded = is.begins.commanded;
             slots = is.begins.slots;
@@ -123,7 +132,7 @@ taken_listens Attends settings count before behind attended false old new takes 
 taken_listens Attends settings count before behind attended true old new takes = attended old new takes
 
 -- the wire listens where it was opened
-pub listens_there : (Told : Option (List ℕ) → Type 0) (settings : SpeakerSettings) (count : ℕ) (before behind : List ℕ) (turns : Turns) (listens : Option SocketAddr) → IsServed Told (λ wire. wire ≡ nothing_told listens) AttendsSocket settings count before behind turns → turns.counts.wire.listens ≡ listens
+pub listens_there : (Told : List ℕ → Option (List ℕ) → Type 0) (settings : SpeakerSettings) (count : ℕ) (before behind : List ℕ) (turns : Turns) (listens : Option SocketAddr) → IsServed Told (λ wire. wire ≡ nothing_told listens) AttendsSocket settings count before behind turns → turns.counts.wire.listens ≡ listens
 listens_there Told settings count before behind turns listens is =
     taken_listens AttendsSocket settings count before behind (λ old new takes. attended_listens _ _ _ _ _ settings count before behind old new takes) (has_commands settings) is.begun turns is.takes
     ∙ (ap (λ (t : Turns). t.counts.wire.listens) is.begins.remotes

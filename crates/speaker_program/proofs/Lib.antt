@@ -5,5 +5,6 @@ pub mod EndedWell
 pub mod OpenedLines
 pub mod OtherFaults
 pub mod Remotes
+pub mod Saying
 pub mod ServedWords
 pub mod TakenTurns

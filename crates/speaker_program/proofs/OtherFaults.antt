@@ -4,7 +4,7 @@ use Rattle.std.specs.Result.{IsErrAnd}
 use Rattle.scenario.specs.declared.commands.CommandsFault.{CommandsFault}
 use Rattle.speaker_program.specs.Endings.{IsOfCommands, IsOfWords, IsUnread}
 use Rattle.speaker_program.specs.declared.fault.SpeakerFault.{SpeakerFault}
-use Rattle.speaker_program.specs.declared.fault.SpeakerFault.TheVariants.{Words, File, Settings, Commands, Slot, Refused, Listen, Metrics, Clock, Turn, Output, NoMemory}
+use Rattle.speaker_program.specs.declared.fault.SpeakerFault.TheVariants.{Words, File, Settings, Commands, Exceptions, Slot, Refused, Listen, Metrics, Clock, Turn, Output, NoMemory}
 use Rattle.wires.specs.declared.fault.LoopFault.{LoopFault}
 
 pub other_fault : {T : Type 0} (r : Result T SpeakerFault) (fault : SpeakerFault) → IsErrAnd r (λ ends. ends ≡ fault) → ¬ (IsOfWords fault) → IfErr r (λ ends. ¬ (IsOfWords ends))
@@ -22,6 +22,7 @@ commands_are_other why (Words wrong) is = absurd is
 commands_are_other why (File path error) is = λ words. words
 commands_are_other why (Settings path fault) is = λ words. words
 commands_are_other why (Commands path fault) is = λ words. words
+commands_are_other why (Exceptions path fault) is = λ words. words
 commands_are_other why (Slot path slot) is = λ words. words
 commands_are_other why (Refused refusal) is = λ words. words
 commands_are_other why (Listen address error) is = λ words. words

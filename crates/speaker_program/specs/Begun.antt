@@ -2,12 +2,13 @@
 use Rattle.std.specs.Prelude.{◌≡◌, ◌||◌, ℕ, Bool, true, false, List, [], ◌∷◌, Option, None, Some, Ok, String, is_some, string_bytes}
 use Rattle.std.specs.declared.alloc.Global.{Global}
 use Rattle.std.specs.declared.net.socket_addr.SocketAddr.{SocketAddr as Address}
+use Rattle.slurm_files.specs.SlurmDocument.{Said}
 use Rattle.runs.specs.SpeakerState.{SpeakerState}
 use Rattle.speaker_turns.specs.Turns.{Turns, idle, with_patience, with_remote}
 use Rattle.speaker_turns.specs.declared.end.End.TheVariants.{Peer, Cache}
 use Rattle.speaker_turns.specs.declared.patience.Patience.{Patience}
 use Rattle.wires.specs.Wires.{WireState}
-use Rattle.speaker_program.specs.Commanded.{IsCommanded, TakesSoMany}
+use Rattle.speaker_program.specs.Commanded.{AreSaidOf, IsCommanded, TakesSoMany}
 use Rattle.speaker_program.specs.declared.fault.SpeakerFault.{SpeakerFault}
 use Rattle.speaker_program.specs.HeldBack.{AreHeldBack, wait_until, waits}
 use Rattle.speaker_program.specs.Slots.{HasJust}
@@ -39,24 +40,23 @@ with_remotes peers cache turns = with_cache cache (with_peers peers turns)
 abbrev pub patience_of : SpeakerSettings → Patience
 patience_of settings = record { send_hold = Some settings.send_hold; open_wait = settings.open_wait }
 
--- the text of a reader that is given, as far as it is known
-abbrev pub TextFrom : {L : Type 0} → (L → Type 0) → (L → Option (List ℕ)) → Option (List ℕ) → Type 0
-TextFrom {L} gives remaining text = (lines : L) × gives lines × (text ≡ remaining lines)
-
 -- the state of a wire that is given
 abbrev pub StateFrom : {W : Type 0} → (W → Type 0) → (W → WireState) → WireState → Type 0
 StateFrom {W} gives state_of state = (wire : W) × gives wire × (state ≡ state_of wire)
 
--- a loop before its first turn: its speaker is as the commands of the settings, of such a text, leave one of their AS, Identifier,
+-- a loop before its first turn: its speaker is as the exceptions of the settings, and then their commands, of such texts at their
+-- paths, leave one of their AS, Identifier,
 -- cache, capabilities and timers, its slots are just those of the settings, it is as patient as they tell, and over such a wire it knows
 -- where each peer of the settings is, and their cache
-pub record IsBegun (Told : Option (List ℕ) → Type 0) (Opened : WireState → Type 0) (settings : SpeakerSettings) (turns : Turns) : Type 0 where
+pub record IsBegun (Told : List ℕ → Option (List ℕ) → Type 0) (Opened : WireState → Type 0) (settings : SpeakerSettings) (turns : Turns) : Type 0 where
   pub speaker : SpeakerState
+  pub said : Said
   pub text : Option (List ℕ)
   pub wire : WireState
-  pub told : Told text
+  pub excepted : AreSaidOf Told settings.slurm said
+  pub told : Told (string_bytes settings.commands) text
   pub opened : Opened wire
-  pub commanded : IsCommanded text (config_of settings) speaker
+  pub commanded : IsCommanded said.exceptions text (config_of settings) speaker
   pub slots : HasJust settings.peers.items speaker
   pub remotes : turns ≡ with_remotes settings.peers.items settings.cache (with_patience (patience_of settings) (idle speaker wire))
 
@@ -103,7 +103,7 @@ abbrev pub is_watched : SpeakerSettings → Bool
 is_watched settings = settings.log || is_some settings.metrics
 
 -- from there turns were taken
-pub record IsServed (Told : Option (List ℕ) → Type 0) (Opened : WireState → Type 0) (Attends : SpeakerSettings → ℕ → List ℕ → List ℕ → Turns → Turns → Type 0) (settings : SpeakerSettings) (count : ℕ) (before behind : List ℕ) (turns : Turns) : Type 0 where
+pub record IsServed (Told : List ℕ → Option (List ℕ) → Type 0) (Opened : WireState → Type 0) (Attends : SpeakerSettings → ℕ → List ℕ → List ℕ → Turns → Turns → Type 0) (settings : SpeakerSettings) (count : ℕ) (before behind : List ℕ) (turns : Turns) : Type 0 where
   pub begun : Turns
   pub begins : IsBegun Told Opened settings begun
   pub takes : TakesTurnsOf Attends (has_commands settings) settings count before behind begun turns

@@ -1,9 +1,13 @@
 -- What settings and their commands make of a speaker, and turns of its loop.
-use Rattle.std.specs.Prelude.{◌≡◌, ◌<◌, ◌⊎◌, ℕ, List, [], ◌∷◌, Option, Some, Result, Ok, Err, length}
+use Rattle.std.specs.Prelude.{◌≡◌, ◌<◌, ◌++◌, ◌⊎◌, ℕ, List, [], ◌∷◌, Option, None, Some, Result, Ok, Err, String, length, string_bytes}
+use Rattle.std.specs.declared.alloc.Global.{Global}
 use Rattle.clocks.specs.Moments.{NeverGoBack, told_behind}
+use Rattle.local_exceptions.specs.ExceptionSets.{ExceptionSets}
 use Rattle.scenario.specs.FileLines.{lines}
 use Rattle.scenario.specs.ObeyedCommands.{AreCommandsOf, Obeys, ObeysBefore}
 use Rattle.scenario.specs.declared.commands.CommandsFault.{CommandsFault}
+use Rattle.slurm_files.specs.SlurmDocument.{IsSlurm, Said, nothing_said}
+use Rattle.speaker_exceptions.specs.ObeyedExceptions.{AreTurnsOf, commands_of}
 use Rattle.speaker_program.specs.Endings.{IsOfCommands}
 use Rattle.speaker_program.specs.declared.fault.SpeakerFault.{SpeakerFault}
 use Rattle.runs.specs.Agreement.{Agrees}
@@ -17,9 +21,27 @@ use Rattle.wires.specs.declared.fault.LoopFault.TheVariants.{Accept}
 abbrev pub AreLinesOf : Option (List ℕ) → List (List ℕ) → Type 0
 AreLinesOf text on = (octets : List ℕ) → text ≡ Some octets → on ≡ lines octets
 
--- the speaker is as the commands on the lines of the text leave one of this configuration
-abbrev pub IsCommanded : Option (List ℕ) → Config → SpeakerState → Type 0
-IsCommanded text config s = (on : List (List ℕ)) × (r : Run) × AreLinesOf text on × AreCommandsOf on r × Agrees config r s
+-- the octets of a SLURM file say this
+abbrev pub IsSaidIn : List ℕ → Said → Type 0
+IsSaidIn octets said = IsSlurm octets (Ok said)
+
+-- the SLURM file of the path says this, whose text is told so, where that is known
+abbrev pub IsSaidAt : (List ℕ → Option (List ℕ) → Type 0) → List ℕ → Said → Type 0
+IsSaidAt Told path said = (text : Option (List ℕ)) × Told path text × ((octets : List ℕ) → text ≡ Some octets → IsSaidIn octets said)
+
+-- so it does where the settings have one; else nothing is said
+abbrev pub AreSaidOf : (List ℕ → Option (List ℕ) → Type 0) → Option (String Global) → Said → Type 0
+AreSaidOf Told None said = said ≡ nothing_said
+AreSaidOf Told (Some path) said = IsSaidAt Told (string_bytes path) said
+
+-- the text of a reader that is given for the path, as far as it is known
+abbrev pub TextAt : {L : Type 0} → (List ℕ → L → Type 0) → (L → Option (List ℕ)) → List ℕ → Option (List ℕ) → Type 0
+TextAt {L} gives remaining path text = (lines : L) × gives path lines × (text ≡ remaining lines)
+
+-- the speaker is as the exceptions, and then the commands on the lines of the text, leave one of this configuration
+abbrev pub IsCommanded : ExceptionSets → Option (List ℕ) → Config → SpeakerState → Type 0
+IsCommanded exceptions text config s =
+    (on : List (List ℕ)) × (first later : Run) × AreTurnsOf (commands_of exceptions) first × AreLinesOf text on × AreCommandsOf on later × Agrees config (later ++ first) s
 
 -- the commands on the lines of the text were accepted, in order
 abbrev pub ObeysText : Option (List ℕ) → SpeakerState → SpeakerState → Type 0

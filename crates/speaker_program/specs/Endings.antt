@@ -5,7 +5,7 @@ use Rattle.scenario.specs.CommandFaults.{IsOutside}
 use Rattle.scenario.specs.declared.commands.CommandsFault.{CommandsFault}
 use Rattle.speaker_program.specs.Exits.{exit_of_fault}
 use Rattle.speaker_program.specs.declared.fault.SpeakerFault.{SpeakerFault}
-use Rattle.speaker_program.specs.declared.fault.SpeakerFault.TheVariants.{Words, File, Settings, Commands, Slot, Refused, Listen, Metrics, Clock, Turn, Output, NoMemory}
+use Rattle.speaker_program.specs.declared.fault.SpeakerFault.TheVariants.{Words, File, Settings, Commands, Exceptions, Slot, Refused, Listen, Metrics, Clock, Turn, Output, NoMemory}
 
 -- the words are wrong
 abbrev pub IsOfWords : SpeakerFault → Type 0
@@ -13,6 +13,7 @@ IsOfWords (Words why) = ⊤
 IsOfWords (File path error) = ⊥
 IsOfWords (Settings path why) = ⊥
 IsOfWords (Commands path why) = ⊥
+IsOfWords (Exceptions path why) = ⊥
 IsOfWords (Slot path slot) = ⊥
 IsOfWords (Refused refusal) = ⊥
 IsOfWords (Listen address error) = ⊥
@@ -28,6 +29,7 @@ IsOfCommands fault (Words why) = ⊥
 IsOfCommands fault (File path error) = ⊥
 IsOfCommands fault (Settings path why) = ⊥
 IsOfCommands fault (Commands path unobeyed) = unobeyed.why ≡ fault
+IsOfCommands fault (Exceptions path why) = ⊥
 IsOfCommands fault (Slot path slot) = ⊥
 IsOfCommands fault (Refused refusal) = ⊥
 IsOfCommands fault (Listen address error) = ⊥

@@ -5,8 +5,9 @@ use Rattle.bgp_conf.specs.declared.refusal.Refusal.TheVariants.{UnknownName, Too
 use Rattle.scenario.specs.declared.commands.CommandsFault.{CommandsFault}
 use Rattle.scenario.specs.declared.commands.CommandsFault.TheVariants.{BadLine as BadCommand, Refused as RefusedCommand, Device as DeviceOfCommands, NoMemory as NoMemoryOfCommands}
 use Rattle.settings_keys.specs.SettingsExits.{exit_of_settings}
+use Rattle.speaker_exceptions.specs.ExceptionExits.{exit_of_exceptions}
 use Rattle.speaker_program.specs.declared.fault.SpeakerFault.{SpeakerFault}
-use Rattle.speaker_program.specs.declared.fault.SpeakerFault.TheVariants.{Words, File, Settings as BadSettings, Commands, Slot, Refused as RefusedBeginning, Listen, Metrics, Clock, Turn, Output, NoMemory as NoMemoryToBegin}
+use Rattle.speaker_program.specs.declared.fault.SpeakerFault.TheVariants.{Words, File, Settings as BadSettings, Commands, Exceptions, Slot, Refused as RefusedBeginning, Listen, Metrics, Clock, Turn, Output, NoMemory as NoMemoryToBegin}
 use Rattle.program_endings.specs.declared.fault.ExitFault.{ExitFault}
 use Rattle.program_endings.specs.declared.fault.ExitFault.TheVariants.{Arguments, Settings, BadLine, RefusedLine, Device}
 
@@ -37,6 +38,7 @@ exit_of_fault (Words why) = Arguments
 exit_of_fault (File path error) = Device
 exit_of_fault (BadSettings path why) = exit_of_settings why
 exit_of_fault (Commands path unobeyed) = exit_of_commands unobeyed.why
+exit_of_fault (Exceptions path why) = exit_of_exceptions why
 exit_of_fault (Slot path slot) = Settings
 exit_of_fault (RefusedBeginning refusal) = exit_of_speaker refusal
 exit_of_fault (Listen address error) = Device

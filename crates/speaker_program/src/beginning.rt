@@ -1,40 +1,54 @@
 //! The loop of the settings, before its first turn.
-ghost use Rattle.std.specs.Prelude.{◌≡◌, Ok, Some, IfErr, IfOk, string_bytes};
-ghost use Rattle.std.specs.Fn.{FnOnceReturnsAt};
+ghost use Rattle.std.specs.Prelude.{◌≡◌, Ok, Some, IfErr, IfOk};
+ghost use Rattle.std.specs.Fn.{FnReturnsAt};
 ghost use Rattle.speaker_program.specs.Endings.{IsOfWords};
-ghost use Rattle.speaker_program.specs.Begun.{IsBegun, StateFrom, TextFrom, is_watched, patience_of, with_remotes};
+ghost use Rattle.speaker_program.specs.Commanded.{TextAt};
+ghost use Rattle.speaker_program.specs.Begun.{IsBegun, StateFrom, is_watched, patience_of, with_remotes};
 
 use crate::commanded_speaker::commanded;
+use crate::exceptions::{said_of, tell_said};
 use crate::fault::SpeakerFault;
 use decision::Book;
 use speaker_settings::SpeakerSettings;
 use speaker_turns::{End, Patience, SpeakerLoop};
-use std::alloc::Global;
-use std::io::{self, BufRead};
+use std::alloc::{AllocGlobal, Global};
+use std::io::{self, BufRead, Write};
 use std::net::SocketAddr;
+use std::rt::Clock;
 use wires::Wire;
 
-/// The loop of the settings, before its first turn.
-pub(crate) fn begin<B: Book<Global>, L: BufRead + Drop, W: Wire + Drop, M, F>(
-    alloc: Global,
+/// The loop of the settings, before its first turn. The log is told what their SLURM file says.
+pub(crate) fn begin<
+    R: Clock + AllocGlobal,
+    B: Book<Global>,
+    O: Write,
+    L: BufRead + Drop,
+    W: Wire + Drop,
+    M,
+    F,
+>(
+    rt: &R,
     settings: &SpeakerSettings,
-    commands: M,
+    output: &mut O,
+    texts: &M,
     opens: F,
 ) -> Result<SpeakerLoop<W, Global, B>, SpeakerFault>
 where
-    M: FnOnce(&str) -> io::Result<L>,
+    M: Fn(&str) -> io::Result<L>,
     F: FnOnce(Option<SocketAddr>, bool) -> io::Result<W>,
-    requires commands { M.IsAlwaysCallable commands }
+    requires texts { M.IsAlwaysCallable texts.now }
     requires opens { F.IsAlwaysCallable opens }
     ensures fault { IfErr result (λ fault. ¬ (IsOfWords fault)) }
-    ensures begins { IfOk result (λ served. IsBegun (TextFrom (λ lines. FnOnceReturnsAt M.FnOnce commands (string_bytes settings.now.commands) (Ok lines)) L.remaining)
+    ensures begins { IfOk result (λ served. IsBegun (TextAt (λ path lines. FnReturnsAt M.Fn texts.now path (Ok lines)) L.remaining)
         (StateFrom (λ wire. F.post opens settings.now.listen (is_watched settings.now) (Ok wire)) W.state) settings.now served) }
 {
-    let speaker = commanded(alloc, settings, commands)?;
+    let said = said_of(rt.alloc(), settings, texts)?;
+    let speaker = commanded(rt.alloc(), settings, &said, texts)?;
     let wire = opened(settings.listen, is_watched(settings), opens)?;
-    let mut served = SpeakerLoop::new(alloc, wire, speaker)?;
+    let mut served = SpeakerLoop::new(rt.alloc(), wire, speaker)?;
     served.set_patience(patience_of(settings));
     tell_remotes(settings, &mut served);
+    tell_said(rt, settings, &said, output);
     Ok(served)
 }
 

@@ -1,15 +1,16 @@
 //! What the main of `ovbgpd` does.
 ghost use Rattle.clocks.specs.Moments.{moments_of};
-ghost use Rattle.std.specs.Prelude.{◌≡◌, [], ◌≤◌, ℕ, List, Vec, Ok, Some, IfOk, MatchResult, string_bytes};
-ghost use Rattle.std.specs.Fn.{FnOnceReturnsAt};
+ghost use Rattle.std.specs.Prelude.{◌≡◌, [], ◌≤◌, ℕ, List, Vec, Ok, Some, IfOk, MatchResult};
+ghost use Rattle.std.specs.Fn.{FnOnceReturnsAt, FnReturnsAt};
 ghost use Rattle.std.specs.Global.{Global as TheGlobal};
 ghost use Rattle.toml.specs.Data.{Members};
 ghost use Rattle.speaker_program.specs.Checked.{IsCheckedBy};
+ghost use Rattle.speaker_program.specs.Commanded.{TextAt};
 ghost use Rattle.speaker_program.specs.Endings.{EndsSo, IsOfWords, status_at_end};
 ghost use Rattle.program_endings.specs.Asides.{Asks};
 ghost use Rattle.program_endings.specs.declared.aside.Aside.{Aside};
 ghost use Rattle.std.specs.Result.{IsErrAnd};
-ghost use Rattle.speaker_program.specs.Begun.{AttendsOperators, AttendsSocket, IsServed, StateFrom, TextFrom, is_watched};
+ghost use Rattle.speaker_program.specs.Begun.{AttendsOperators, AttendsSocket, IsServed, StateFrom, is_watched};
 ghost use Rattle.speaker_settings.specs.declared.settings.SpeakerSettings.{SpeakerSettings};
 ghost use Rattle.speaker_settings.specs.ToldSettings.{IsToldBy};
 ghost use Rattle.settings_keys.specs.Keys.{IsTableOf};
@@ -58,13 +59,13 @@ where
     // The status is 0 only where the settings of a file that was opened at the path of the words were served for just the turns
     // of the words, or where the operators of a socket that was opened at their `control` are attended to between turns for so
     // many or for fewer behind one who stopped them, each answered what its own line asks for, with peers that are to wait let
-    // through when they may go: with the commands of a file that was opened at their path, over a wire that was opened where they
+    // through when they may go: with the exceptions and the commands of files that were opened at their paths, over a wire that was opened where they
     // listen, and that listens there still, at the moments of the instants that the system's clock answered.
     ensures serves { ((aside : Aside) → ¬ (Asks words.now aside)) → result ≡ 0 → (path : List ℕ) × (turns : ℕ) × (settings : SpeakerSettings) × (instants : List ℕ) × (served : Turns)
         × IsCall words.now path turns × AreSettingsOf (AreOctetsAt path) settings
-        × IsServed (IsTextAt (string_bytes settings.commands)) (λ wire. wire ≡ nothing_told settings.listen) AttendsSocket settings turns [] (moments_of instants) served × (served.counts.wire.listens ≡ settings.listen) }
-    // Where they are to be checked, it is 0 only where a file that was opened at their path tells settings, and the commands of
-    // a file that was opened at theirs leave a speaker of them with just their slots.
+        × IsServed IsTextAt (λ wire. wire ≡ nothing_told settings.listen) AttendsSocket settings turns [] (moments_of instants) served × (served.counts.wire.listens ≡ settings.listen) }
+    // Where they are to be checked, it is 0 only where a file that was opened at their path tells settings, and the exceptions
+    // and the commands of files that were opened at theirs leave a speaker of them with just their slots.
     ensures checks { (aside : Aside) → Asks words.now aside → result ≡ 0 → IsCheckedBy aside }
 {
     match aside_of(words) {
@@ -88,7 +89,7 @@ where
     ensures silent { result ≡ 0 → errors.new ≡ errors.old }
     ensures serves { result ≡ 0 → (path : List ℕ) × (turns : ℕ) × (settings : SpeakerSettings) × (instants : List ℕ) × (served : Turns)
         × IsCall words.now path turns × AreSettingsOf (AreOctetsAt path) settings
-        × IsServed (IsTextAt (string_bytes settings.commands)) (λ wire. wire ≡ nothing_told settings.listen) AttendsSocket settings turns [] (moments_of instants) served × (served.counts.wire.listens ≡ settings.listen) }
+        × IsServed IsTextAt (λ wire. wire ≡ nothing_told settings.listen) AttendsSocket settings turns [] (moments_of instants) served × (served.counts.wire.listens ≡ settings.listen) }
 {
     let mut clock = MonotonicClock::new(rt);
     let served = serve_words::<B, _, _, _>(rt, words, output, &mut clock);
@@ -120,7 +121,7 @@ where
     ensures output { IsErrAnd result IsOfWords → output.new ≡ output.old }
     ensures serves { IfOk result (λ served. (path : List ℕ) × (turns : ℕ) × (settings : SpeakerSettings)
         × IsCall words.now path turns × AreSettingsOf (AreOctetsAt path) settings
-        × IsServed (IsTextAt (string_bytes settings.commands)) (λ wire. wire ≡ nothing_told settings.listen) AttendsSocket settings turns (C.readings clock.old) (C.readings clock.new) served × (served.counts.wire.listens ≡ settings.listen)) }
+        × IsServed IsTextAt (λ wire. wire ≡ nothing_told settings.listen) AttendsSocket settings turns (C.readings clock.old) (C.readings clock.new) served × (served.counts.wire.listens ≡ settings.listen)) }
 {
     run_bgp(
         rt,
@@ -128,7 +129,7 @@ where
         output,
         clock,
         |path: &str| octets_at(rt, path),
-        |path: &str| lines_of(rt, path),
+        &|path: &str| lines_of(rt, path),
         |listen, log| open_wire(rt, listen, log),
         |path: &str| ControlSocket::open(rt, path),
         |address| MetricsSocket::open(rt, address),
@@ -181,37 +182,37 @@ fn run_bgp<
     output: &mut O,
     clock: &mut C,
     reads: S,
-    commands: M,
+    texts: &M,
     opens: F,
     controls: D,
     scrapes: E,
 ) -> Result<SpeakerLoop<W, Global, B>, SpeakerFault>
 where
     S: FnOnce(&str) -> io::Result<Vec<u8>>,
-    M: FnOnce(&str) -> io::Result<L>,
+    M: Fn(&str) -> io::Result<L>,
     F: FnOnce(Option<SocketAddr>, bool) -> io::Result<W>,
     D: FnOnce(&str) -> io::Result<P>,
     E: FnOnce(SocketAddr) -> io::Result<Q>,
     requires reads { S.IsAlwaysCallable reads }
-    requires commands { M.IsAlwaysCallable commands }
+    requires texts { M.IsAlwaysCallable texts.now }
     requires opens { F.IsAlwaysCallable opens }
     requires controls { D.IsAlwaysCallable controls }
     requires scrapes { E.IsAlwaysCallable scrapes }
     ensures wrong { ((path : List ℕ) (turns : ℕ) → ¬ (IsCall words.now path turns)) → IsErrAnd result IsOfWords }
     ensures right { (path : List ℕ) (turns : ℕ) → IsCall words.now path turns → ¬ (IsErrAnd result IsOfWords) }
     ensures output { IsErrAnd result IsOfWords → output.new ≡ output.old }
-    // The speaker of the settings that the file of the words tells has obeyed just the commands of the file of the settings, it
-    // was told their remotes, and has taken just the turns of the words over the wire that was opened where they listen.
+    // The speaker of the settings that the file of the words tells has obeyed just the exceptions and then the commands of the files
+    // of the settings, it was told their remotes, and has taken just the turns of the words over the wire that was opened where they listen.
     ensures serves { IfOk result (λ served. (path : List ℕ) × (turns : ℕ) × (octets : Vec ℕ TheGlobal) × (table : Members) × (settings : SpeakerSettings)
         × IsCall words.now path turns × FnOnceReturnsAt S.FnOnce reads path (Ok octets) × IsTableOf octets.items table × IsToldBy table settings
-        × IsServed (TextFrom (λ lines. FnOnceReturnsAt M.FnOnce commands (string_bytes settings.commands) (Ok lines)) L.remaining)
+        × IsServed (TextAt (λ path lines. FnReturnsAt M.Fn texts.now path (Ok lines)) L.remaining)
         (StateFrom (λ wire. F.post opens settings.listen (is_watched settings) (Ok wire)) W.state)
         (AttendsOperators P.wish P.line P.turns P.hears (λ path there. FnOnceReturnsAt D.FnOnce controls path (Ok there))) settings turns (C.readings clock.old) (C.readings clock.new) served) }
 {
     let (path, turns) = call_of(words)?;
     let settings = read_settings(rt.alloc(), path, reads)?;
     serve(
-        rt, &settings, turns, output, clock, commands, opens, controls, scrapes,
+        rt, &settings, turns, output, clock, texts, opens, controls, scrapes,
     )
 }
 

@@ -1,6 +1,6 @@
 //! The speaker of the settings, and their commands.
 ghost use Rattle.std.specs.Prelude.{◌≡◌, [], ℕ, List, Ok, Some, IfErr, IfOk, MatchOption, OnOk, string_bytes};
-ghost use Rattle.std.specs.Fn.{FnOnceReturnsAt};
+ghost use Rattle.std.specs.Fn.{FnReturnsAt};
 ghost use Rattle.file_paths.specs.OpenedFiles.{AreOctetsOf};
 ghost use Rattle.speaker_program.specs.Commanded.{IsCommanded, IsCommandedBy, ObeysText};
 ghost use Rattle.speaker_program.specs.Endings.{IsOfCommands, IsOfWords, IsUnread};
@@ -10,34 +10,38 @@ ghost use Rattle.speaker_program.specs.ToldConfig.{config_of, with_all_times};
 ghost use Rattle.scenario.specs.FileLines.{lines};
 ghost use Rattle.runs.specs.Agreement.{Agrees};
 
+use crate::exceptions::{except, lines_at};
 use crate::fault::SpeakerFault;
 use crate::unobeyed::Unobeyed;
 use bgp_conf::PEER_SLOTS;
 use decision::Book;
 use file_paths::octets_of;
 use scenario::{CommandsFault, obey_lines};
+use slurm_files::SlurmFile;
 use speaker::{CACHE_RETRY_SECONDS, Config, PeerTimers, SlotTimers, Speaker};
 use speaker_settings::{SpeakerSettings, has_slot};
 use std::alloc::Global;
 use std::io::{self, BufRead};
 use std::net::SocketAddr;
 
-/// The speaker of the settings, which has obeyed their commands.
+/// The speaker of the settings, which has obeyed the exceptions that their SLURM file says, and then their commands.
 pub(crate) fn commanded<B: Book<Global>, L: BufRead + Drop, M>(
     alloc: Global,
     settings: &SpeakerSettings,
-    commands: M,
+    said: &SlurmFile,
+    texts: &M,
 ) -> Result<Speaker<Global, B>, SpeakerFault>
 where
-    M: FnOnce(&str) -> io::Result<L>,
-    requires { M.IsAlwaysCallable commands }
+    M: Fn(&str) -> io::Result<L>,
+    requires { M.IsAlwaysCallable texts.now }
     ensures fault { IfErr result (λ fault. ¬ (IsOfWords fault)) }
     ensures slots { IfOk result (HasJust settings.now.peers.items) }
-    ensures commands { IfOk result (λ speaker. (lines : L) × FnOnceReturnsAt M.FnOnce commands (string_bytes settings.now.commands) (Ok lines)
-        × IsCommanded (L.remaining lines) (config_of settings.now) speaker) }
+    ensures commands { IfOk result (λ speaker. (lines : L) × FnReturnsAt M.Fn texts.now (string_bytes settings.now.commands) (Ok lines)
+        × IsCommanded said.now.exceptions (L.remaining lines) (config_of settings.now) speaker) }
 {
     let mut speaker = made(alloc, config_of(settings))?;
-    command(alloc, settings, &mut speaker, commands)?;
+    except(alloc, settings, said, &mut speaker)?;
+    command(alloc, settings, &mut speaker, texts)?;
     Ok(speaker)
 }
 
@@ -82,35 +86,21 @@ fn command<B: Book<Global>, L: BufRead + Drop, M>(
     alloc: Global,
     settings: &SpeakerSettings,
     speaker: &mut Speaker<Global, B>,
-    commands: M,
+    texts: &M,
 ) -> Result<(), SpeakerFault>
 where
-    M: FnOnce(&str) -> io::Result<L>,
-    requires { M.IsAlwaysCallable commands }
+    M: Fn(&str) -> io::Result<L>,
+    requires { M.IsAlwaysCallable texts.now }
     ensures fault { IfErr result (λ fault. ¬ (IsOfWords fault)) }
     ensures slots { OnOk result (HasJust settings.now.peers.items speaker.new) }
-    ensures commands { OnOk result ((lines : L) × FnOnceReturnsAt M.FnOnce commands (string_bytes settings.now.commands) (Ok lines) × ObeysText (L.remaining lines) speaker.old speaker.new) }
+    ensures commands { OnOk result ((lines : L) × FnReturnsAt M.Fn texts.now (string_bytes settings.now.commands) (Ok lines) × ObeysText (L.remaining lines) speaker.old speaker.new) }
 {
     let path = settings.commands.as_str();
-    let lines = lines_at(alloc, path, commands)?;
+    let lines = lines_at(alloc, path, texts)?;
     command_from(alloc, path, lines, speaker)?;
     match other_slot(speaker, settings.peers.as_slice()) {
         None => Ok(()),
         Some(slot) => Err(SpeakerFault::bad_slot(alloc, path, slot)),
-    }
-}
-
-// The reader of the file of this path.
-fn lines_at<L: BufRead + Drop, M>(alloc: Global, path: &str, commands: M) -> Result<L, SpeakerFault>
-where
-    M: FnOnce(&str) -> io::Result<L>,
-    requires { M.IsAlwaysCallable commands }
-    ensures fault { IfErr result (λ fault. ¬ (IsOfWords fault)) }
-    ensures given { IfOk result (λ lines. FnOnceReturnsAt M.FnOnce commands path.now (Ok lines)) }
-{
-    match commands(path) {
-        Ok(lines) => Ok(lines),
-        Err(error) => Err(SpeakerFault::unread(alloc, path, error)),
     }
 }
 

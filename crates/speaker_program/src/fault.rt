@@ -9,6 +9,7 @@ use crate::unobeyed::Unobeyed;
 use program_endings::{ExitFault, FilePath, WordsFault};
 use settings_keys::SettingsFault;
 use speaker::Refusal;
+use speaker_exceptions::ExceptionsFault;
 use std::alloc::{AllocError, Global};
 use std::fmt::{self, Display, Formatter};
 use std::io;
@@ -39,6 +40,12 @@ pub enum SpeakerFault {
     Commands {
         path: FilePath,
         why: Unobeyed,
+    },
+    /// The exceptions of their SLURM file can't be obeyed.
+    #[error("{path}: {why}")]
+    Exceptions {
+        path: FilePath,
+        why: ExceptionsFault,
     },
     /// Behind their commands this slot has a peer and no table, or a table and no peer.
     #[error("{path}: slot {slot} has a peer in the commands or a table in the settings, and not both")]
@@ -97,6 +104,7 @@ impl SpeakerFault {
             SpeakerFault::Words(_) => ExitFault::Arguments,
             SpeakerFault::Settings { why, .. } => why.exit(),
             SpeakerFault::Commands { why, .. } => of_commands(why.why),
+            SpeakerFault::Exceptions { why, .. } => why.exit(),
             SpeakerFault::Slot { .. } => ExitFault::Settings,
             SpeakerFault::Refused(refusal) => of_speaker(*refusal),
             SpeakerFault::File { .. } | SpeakerFault::Listen { .. } => ExitFault::Device,
@@ -128,6 +136,14 @@ impl SpeakerFault {
     {
         let path = FilePath::of(alloc, path);
         SpeakerFault::Commands { path, why }
+    }
+
+    /// Exceptions that can't be obeyed.
+    pub(crate) fn bad_exceptions(alloc: Global, path: &str, why: ExceptionsFault) -> SpeakerFault
+        ensures { ¬ (IsOfWords result) }
+    {
+        let path = FilePath::of(alloc, path);
+        SpeakerFault::Exceptions { path, why }
     }
 
     /// A slot with a peer and no table, or a table and no peer.

@@ -13,6 +13,7 @@ The keys of SETTINGS, a file in TOML:
 as             the speaker's AS, 1 to 4294967295
 identifier     its BGP Identifier, as \"192.0.2.1\"
 commands       path of its commands: peers, policies, networks, reachable next hops
+slurm          path of a SLURM file (RFC 8416), whose exceptions are obeyed before the commands (none)
 multiprotocol  true or false: whether its OPEN tells IPv4 unicast (false)
 cache          address and port of its RPKI cache, as \"192.0.2.2:323\" (no cache)
 listen         address and port where passive peers connect, as \"0.0.0.0:179\" (it doesn't listen)

@@ -16,6 +16,7 @@ mod behind;
 mod bgp_main;
 mod checking;
 mod commanded_speaker;
+mod exceptions;
 mod exits;
 mod fault;
 mod files;

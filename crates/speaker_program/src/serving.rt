@@ -1,9 +1,10 @@
 //! The turns of the settings.
-ghost use Rattle.std.specs.Prelude.{◌≡◌, Ok, IfErr, IfOk, OnOk, false, string_bytes};
-ghost use Rattle.std.specs.Fn.{FnOnceReturnsAt};
+ghost use Rattle.std.specs.Prelude.{◌≡◌, Ok, IfErr, IfOk, OnOk, false};
+ghost use Rattle.std.specs.Fn.{FnOnceReturnsAt, FnReturnsAt};
+ghost use Rattle.speaker_program.specs.Commanded.{TextAt};
 ghost use Rattle.speaker_program.specs.Endings.{IsOfWords};
 ghost use Rattle.speaker_program.specs.HeldBack.{waits};
-ghost use Rattle.speaker_program.specs.Begun.{AttendsOperators, IsServed, StateFrom, TakesTurnsOf, TextFrom, has_commands, is_watched};
+ghost use Rattle.speaker_program.specs.Begun.{AttendsOperators, IsServed, StateFrom, TakesTurnsOf, has_commands, is_watched};
 
 use crate::attending::attend_all;
 use crate::beginning::begin;
@@ -47,26 +48,26 @@ pub(crate) fn serve<
     turns: u64,
     output: &mut O,
     clock: &mut C,
-    commands: M,
+    texts: &M,
     opens: F,
     controls: D,
     scrapes: E,
 ) -> Result<SpeakerLoop<W, Global, B>, SpeakerFault>
 where
-    M: FnOnce(&str) -> io::Result<L>,
+    M: Fn(&str) -> io::Result<L>,
     F: FnOnce(Option<SocketAddr>, bool) -> io::Result<W>,
     D: FnOnce(&str) -> io::Result<P>,
     E: FnOnce(SocketAddr) -> io::Result<Q>,
-    requires commands { M.IsAlwaysCallable commands }
+    requires texts { M.IsAlwaysCallable texts.now }
     requires opens { F.IsAlwaysCallable opens }
     requires controls { D.IsAlwaysCallable controls }
     requires scrapes { E.IsAlwaysCallable scrapes }
     ensures fault { IfErr result (λ fault. ¬ (IsOfWords fault)) }
-    ensures serves { IfOk result (λ served. IsServed (TextFrom (λ lines. FnOnceReturnsAt M.FnOnce commands (string_bytes settings.now.commands) (Ok lines)) L.remaining)
+    ensures serves { IfOk result (λ served. IsServed (TextAt (λ path lines. FnReturnsAt M.Fn texts.now path (Ok lines)) L.remaining)
         (StateFrom (λ wire. F.post opens settings.now.listen (is_watched settings.now) (Ok wire)) W.state)
         (AttendsOperators P.wish P.line P.turns P.hears (λ path there. FnOnceReturnsAt D.FnOnce controls path (Ok there))) settings.now turns (C.readings clock.old) (C.readings clock.new) served) }
 {
-    let mut served = begin(rt.alloc(), settings, commands, opens)?;
+    let mut served = begin(rt, settings, output, texts, opens)?;
     match serve_and_show(
         rt,
         settings,

@@ -25,7 +25,7 @@ const WELL: Ending<'static> = Ending {
 };
 
 // How a program ends that writes nothing but these errors.
-fn fails(status: u8, errors: &str) -> Ending<'_> {
+pub(crate) fn fails(status: u8, errors: &str) -> Ending<'_> {
     Ending {
         status,
         output: "",
@@ -34,7 +34,7 @@ fn fails(status: u8, errors: &str) -> Ending<'_> {
 }
 
 // Whether the program ends so with these words.
-fn ends_with<R>(rt: &R, words: &[&str], ending: Ending<'_>) -> bool
+pub(crate) fn ends_with<R>(rt: &R, words: &[&str], ending: Ending<'_>) -> bool
 where
     R: Net<Listener = TcpListener, Stream = TcpStream> + Files + Clock + AllocGlobal,
 {
@@ -209,7 +209,7 @@ const GOOD_SETTINGS: [(&str, &str); 10] = [
 ];
 
 #[rattlefmt::skip]
-const BAD_SETTINGS: [(&str, &str); 45] = [
+const BAD_SETTINGS: [(&str, &str); 46] = [
     ("as = 65000\nidentifier = \"192.0.2.1\"\nno toml", "line 4: key with no value, expected `=`"),
     ("identifier = \"192.0.2.1\"\n", "'as' isn't there"),
     ("as = 65000\n", "'identifier' isn't there"),
@@ -224,6 +224,7 @@ const BAD_SETTINGS: [(&str, &str); 45] = [
     ("as = 65000\nidentifier = 3221225985\n", "identifier: 3221225985 is no IPv4 address other than 0.0.0.0"),
     ("as = 65000\nidentifier = \"192.0.2.1\"\ncache = \"localhost:323\"\n", "cache: 'localhost:323' is no IP address and port"),
     ("as = 65000\nidentifier = \"192.0.2.1\"\ncache = 323\n", "cache: 323 is no IP address and port"),
+    ("as = 65000\nidentifier = \"192.0.2.1\"\nslurm = true\n", "slurm: true is no text"),
     ("as = 65000\nidentifier = \"192.0.2.1\"\nmultiprotocol = 1\n", "multiprotocol: 1 is neither true nor false"),
     ("as = 65000\nidentifier = \"192.0.2.1\"\nlog = \"yes\"\n", "log: 'yes' is neither true nor false"),
     ("as = 65000\nidentifier = \"192.0.2.1\"\nstatus = 0\n", "status: 0 is no number from 1 to 4294967295"),

@@ -4,4 +4,6 @@
 #[cfg(test)]
 mod bgp_statuses;
 #[cfg(test)]
+mod slurm;
+#[cfg(test)]
 mod warnings;

@@ -41,7 +41,7 @@ IsSlot found slot = IsNumber found slot × (slot < 64)
 
 -- the keys of the settings, and of each peer's table
 abbrev pub keys_of_a_speaker : List (List ℕ)
-keys_of_a_speaker = codes "as" ∷ codes "identifier" ∷ codes "commands" ∷ codes "cache" ∷ codes "multiprotocol" ∷ codes "listen" ∷ codes "control" ∷ codes "send_hold" ∷ codes "open_wait" ∷ codes "log" ∷ codes "status" ∷ codes "metrics" ∷ codes "cache_retry" ∷ codes "wait_for_cache" ∷ codes "peer" ∷ []
+keys_of_a_speaker = codes "as" ∷ codes "identifier" ∷ codes "commands" ∷ codes "slurm" ∷ codes "cache" ∷ codes "multiprotocol" ∷ codes "listen" ∷ codes "control" ∷ codes "send_hold" ∷ codes "open_wait" ∷ codes "log" ∷ codes "status" ∷ codes "metrics" ∷ codes "cache_retry" ∷ codes "wait_for_cache" ∷ codes "peer" ∷ []
 
 abbrev pub keys_of_a_peer : List (List ℕ)
 keys_of_a_peer = codes "slot" ∷ codes "remote" ∷ codes "connect_retry" ∷ codes "idle_hold" ∷ []
@@ -93,6 +93,7 @@ pub record IsToldBy (table : Members) (settings : SpeakerSettings) : Type 0 wher
   pub asn : IsTold IsAsn (get_member (codes "as") table) settings.asn
   pub identifier : IsTold IsIdentifier (get_member (codes "identifier") table) settings.identifier
   pub commands : IsTold IsText (get_member (codes "commands") table) (string_bytes settings.commands)
+  pub slurm : IsToldIfThere IsTextOf (get_member (codes "slurm") table) settings.slurm
   pub cache : IsToldIfThere IsAddress (get_member (codes "cache") table) settings.cache
   pub multiprotocol : IsToldOrUsual IsYesOrNo false (get_member (codes "multiprotocol") table) settings.multiprotocol
   pub listen : IsToldIfThere IsAddress (get_member (codes "listen") table) settings.listen

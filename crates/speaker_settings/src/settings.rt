@@ -28,6 +28,8 @@ pub struct SpeakerSettings {
     pub identifier: u32,
     /// The path of its commands.
     pub commands: String,
+    /// The path of the SLURM file whose exceptions stand before its commands, if there is one.
+    pub slurm: Option<String>,
     /// Where its RPKI cache is, if it has one.
     pub cache: Option<SocketAddr>,
     /// Whether its OPEN tells IPv4 unicast by the capability of RFC 4760 section 8.
@@ -60,7 +62,7 @@ pub struct SpeakerSettings {
 impl SpeakerSettings {
     /// The settings that the octets of a file tell in TOML: `as`, a number from 1 to 4294967295, `identifier`, the text of
     /// an IPv4 address other than 0.0.0.0, and `commands`, a text; and, where they are there, `multiprotocol` and `log`,
-    /// `true` or `false`, `cache`, `listen` and `metrics`, each the text of an address and a port, `control`, a text,
+    /// `true` or `false`, `cache`, `listen` and `metrics`, each the text of an address and a port, `slurm` and `control`, texts,
     /// `cache_retry`, a number from 1 to 7200, `send_hold`, in the place of `SEND_HOLD_SECONDS`, `open_wait`, `status` and
     /// `wait_for_cache`, each a number from 1 to 4294967295, and the tables `peer`, each with `slot`, from 0 to 63 and none twice, `remote`, the text of an address and a
     /// port, and, where they are there, `connect_retry` and `idle_hold`, each a number from 1 to 65535, in the place of
@@ -89,10 +91,11 @@ impl SpeakerSettings {
         let identifier = identifier_of(alloc, table)?;
         let path = text_of(alloc, table, "commands")?;
         let commands = String::from_str(alloc, path)?;
+        let slurm = path_if_told(alloc, table, "slurm")?;
         let cache = address_if_told(alloc, table, "cache")?;
         let multiprotocol = yes_or_no_of(alloc, table, "multiprotocol")?;
         let listen = address_if_told(alloc, table, "listen")?;
-        let control = control_of(alloc, table)?;
+        let control = path_if_told(alloc, table, "control")?;
         let send_hold = send_hold_of(alloc, table)?;
         let open_wait = seconds_of(alloc, table, "open_wait")?;
         let log = yes_or_no_of(alloc, table, "log")?;
@@ -106,6 +109,7 @@ impl SpeakerSettings {
             asn,
             identifier,
             commands,
+            slurm,
             cache,
             multiprotocol,
             listen,
@@ -124,10 +128,11 @@ impl SpeakerSettings {
 }
 
 // The keys of the settings, and of each peer's table.
-const KEYS: [&str; 15] = [
+const KEYS: [&str; 16] = [
     "as",
     "identifier",
     "commands",
+    "slurm",
     "cache",
     "multiprotocol",
     "listen",
@@ -171,14 +176,14 @@ fn identifier_of(alloc: Global, table: &Table) -> Result<u32, SettingsFault>
     }
 }
 
-// The path of the Unix socket for operators, where it is told.
-fn control_of(alloc: Global, table: &Table) -> Result<Option<String>, SettingsFault>
-    ensures { AnswersInMemory (λ control. IsToldIfThere IsTextOf (get_member (codes "control") (table_view table.now)) control) result }
+// The path at a key, if the key is there.
+fn path_if_told(alloc: Global, table: &Table, key: &str) -> Result<Option<String>, SettingsFault>
+    ensures { AnswersInMemory (λ told. IsToldIfThere IsTextOf (get_member key.now (table_view table.now)) told) result }
 {
-    if value_at(table, "control").is_none() {
+    if value_at(table, key).is_none() {
         return Ok(None);
     }
-    let path = text_of(alloc, table, "control")?;
+    let path = text_of(alloc, table, key)?;
     Ok(Some(String::from_str(alloc, path)?))
 }
 

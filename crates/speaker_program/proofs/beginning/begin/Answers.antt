@@ -13,8 +13,10 @@ returns-clause-begins g c =
     let told = c.in_ok-speaker.ensures.commands in
     record {
       speaker = c.in_ok-speaker.speaker;
+      said = c.in_ok-said.said;
       text = g.L.Read.remaining told.0;
       wire = g.W.Wire.state c.in_ok-wire.wire;
+      excepted = c.in_ok-said.ensures.said;
       told = (told.0, told.1, refl);
       opened = (c.in_ok-wire.wire, rw c.is_watched.ensures at c.in_ok-wire.ensures.wire, refl);
       commanded = told.2;
@@ -25,3 +27,9 @@ returns-clause-begins g c =
           (c.set_patience.ensures
           ∙ (ap (λ (patience : Patience). with_patience patience c.in_ok-served.served) c.patience_of.ensures ∙ ap (with_patience (patience_of c.args.settings.now)) c.in_ok-served.ensures));
     }
+
+pub returns-in_err-said-clause-fault : goal.returns-in_err-said-clause-fault
+returns-in_err-said-clause-fault g c = other_fault c.from_residual.result c.in_err-said.field-0.0 c.from_residual.ensures.1 c.in_err-said.ensures.fault
+
+pub returns-in_err-speaker-clause-fault : goal.returns-in_err-speaker-clause-fault
+returns-in_err-speaker-clause-fault g c = other_fault c.from_residual-in_err-speaker.result c.in_err-speaker.field-0.0 c.from_residual-in_err-speaker.ensures.1 c.in_err-speaker.ensures.fault

@@ -1,4 +1,4 @@
-use Rattle.std.proofs.Common.{◌≡◌, ◌∙◌, ℕ, List, string_bytes, subst, sym}
+use Rattle.std.proofs.Common.{◌≡◌, ◌∙◌, ℕ, List, subst, sym}
 use Rattle.clocks.specs.Moments.{moments_of}
 use Rattle.wires.specs.Wires.{WireState, nothing_told}
 use Rattle.speaker_program.specs.Begun.{AttendsSocket, IsServed}
@@ -17,6 +17,6 @@ returns-clause-serves g c = λ zero.
       so.0,
       is.3,
       is.4,
-      subst (λ (clock : List ℕ). IsServed (IsTextAt (string_bytes (is.2).commands)) (λ (wire : WireState). wire ≡ nothing_told (is.2).listen) AttendsSocket is.2 is.1 (moments_of clock) (moments_of c.serve_words-served.new.clock) so.0) c.new-clock.ensures is.5,
+      subst (λ (clock : List ℕ). IsServed IsTextAt (λ (wire : WireState). wire ≡ nothing_told (is.2).listen) AttendsSocket is.2 is.1 (moments_of clock) (moments_of c.serve_words-served.new.clock) so.0) c.new-clock.ensures is.5,
       is.6,
     )

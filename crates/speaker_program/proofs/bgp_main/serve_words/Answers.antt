@@ -16,9 +16,9 @@ returns-clause-serves g c =
     let read : AreOctetsAt is.6.0.now octets = (let gives = is.6.1 in search rules) in
     let so =
     served_as _ _ _ _ _ _ settings is.1 _ _ served is.9
-    (λ text told.
-    let lines : IsTextAt told.1.0.now (reader_remaining (λ (f : OpenedFile). f.text) told.0) = (let gives = told.1.1 in search rules) in
-    (lines.0, lines.1 ∙ told.1.2, told.2 ∙ lines.2))
+    (λ path text told.
+    let lines : IsTextAt told.1.shown.now (reader_remaining (λ (f : OpenedFile). f.text) told.0) = (let gives = told.1.says.met in search rules) in
+    (lines.0, lines.1 ∙ told.1.shows, told.2 ∙ lines.2))
     (λ wire opened. let listens : (opened.0).wire ≡ nothing_told settings.listen = (let gives = opened.1 in search rules) in opened.2 ∙ listens)
     (λ old new. attends_as _ _ _ _ _ _ settings is.1 _ _ old new (λ path socket given. let opened : string_bytes socket.path ≡ given.0.now = (let gives = given.1 in search rules) in opened ∙ given.2)) in
     (is.0, is.1, settings, is.5, record { octets = octets; read = subst (λ (path : List ℕ). AreOctetsAt path octets) is.6.2 read; table = is.3; spelled = is.7; told = is.8 }, so, listens_there _ settings is.1 _ _ served _ so))

@@ -9,5 +9,5 @@ pub returns-clause-commands : goal.returns-clause-commands
 returns-clause-commands g c =
     if_ok_as c.commanded.result c.commanded.ensures.commands
     (λ speaker is.
-    let lines : IsTextAt is.1.0.now (reader_remaining (λ (f : OpenedFile). f.text) is.0) = (let gives = is.1.1 in search rules) in
-    (_, (lines.0, lines.1 ∙ is.1.2, lines.2), is.2))
+    let lines : IsTextAt is.1.shown.now (reader_remaining (λ (f : OpenedFile). f.text) is.0) = (let gives = is.1.says.met in search rules) in
+    (_, (lines.0, lines.1 ∙ is.1.shows, lines.2), is.2))

@@ -29,6 +29,11 @@ returns-in_err-commands-clause-told c =
     let needs = IsToldBy (table_view c.args.table.now) in
     starves needs c.from_residual-in_err-commands.result c.from_residual-in_err-commands.ensures.1
 
+pub returns-in_err-slurm-clause-told : goal.returns-in_err-slurm-clause-told
+returns-in_err-slurm-clause-told c =
+    let needs = IsToldBy (table_view c.args.table.now) in
+    passes_on_in_memory _ needs c.from_residual-in_err-slurm.result _ c.from_residual-in_err-slurm.ensures.1 c.in_err-slurm.ensures (λ none s told. none s.slurm told.slurm)
+
 pub returns-in_err-cache-clause-told : goal.returns-in_err-cache-clause-told
 returns-in_err-cache-clause-told c =
     let needs = IsToldBy (table_view c.args.table.now) in

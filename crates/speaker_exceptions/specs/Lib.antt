@@ -1,0 +1,2 @@
+pub mod ExceptionExits
+pub mod ObeyedExceptions

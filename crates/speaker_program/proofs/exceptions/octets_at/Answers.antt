@@ -1,0 +1,8 @@
+use Rattle.speaker_program.proofs.OtherFaults.{other_fault}
+use Rattle.speaker_program.proofs.exceptions.octets_at.Goals as goal
+
+pub returns-in_err-lines-clause-fault : goal.returns-in_err-lines-clause-fault
+returns-in_err-lines-clause-fault g c = other_fault c.from_residual.result c.in_err-lines.field-0.0 c.from_residual.ensures.1 c.in_err-lines.ensures.fault
+
+pub returns-in-Ok-clause-octets : goal.returns-in-Ok-clause-octets
+returns-in-Ok-clause-octets g c = (c.in_ok-lines.lines, c.in_ok-lines.ensures.given, c.in-Ok.ensures)
