@@ -142,8 +142,9 @@ def signed_object(kind, content, serial, file, found):
     return sequence(oid("1.2.840.113549.1.7.2"), tlv(0xA0, body))
 
 
-def roa(serial, file, number, *families):
-    """RFC 6482: of each family the prefixes, as octets, length and maximum length."""
+def roa(serial, file, number, *families, every=False):
+    """RFC 6482: of each family the prefixes, as octets, length and maximum length. Its certificate holds these, or every address of
+    these families (RFC 3779 wants a certificate's prefixes sorted and apart, and a ROA's need not be)."""
 
     def prefix(address, length):
         count = (length + 7) // 8
@@ -153,24 +154,30 @@ def roa(serial, file, number, *families):
     for family, prefixes in families:
         entries = (sequence(prefix(address, length), *([] if most is None else [integer(most)])) for address, length, most in prefixes)
         told.append(sequence(octets(family), sequence(*entries)))
-        held.append(sequence(octets(family), sequence(*(prefix(address, length) for address, length, _ in prefixes))))
+        own = [bits(b"")] if every else [prefix(address, length) for address, length, _ in prefixes]
+        held.append(sequence(octets(family), sequence(*own)))
     return signed_object("1.2.840.113549.1.9.16.1.24", sequence(integer(number), sequence(*told)), serial, file, resources(sequence(*held)))
 
 
-def repository():
+def five_roas():
     four, six, document = b"\0\1", b"\0\2", (0x20, 1, 0x0D, 0xB8)
-    files = {
+    return {
         "a.roa": roa(2, "a.roa", 64496, (four, [((192, 0, 2), 24, None), ((198, 51, 100), 24, 26)])),
         "b.roa": roa(3, "b.roa", 64497, (four, [((10,), 8, 32)]), (six, [(document, 32, 48)])),
         "c.roa": roa(4, "c.roa", 0, (four, [((203, 0, 113), 24, None)])),
         "d.roa": roa(5, "d.roa", 2**32 - 1, (four, [((192, 0, 2), 24, 24)]), (six, [(document, 32, None)])),
         "e.roa": roa(6, "e.roa", 64496, (four, [((192, 0, 2), 24, 24)])),
-        "ta.crl": ANCHOR.signed(sequence(integer(1), SIGNATURE, name(ANCHOR.name), short_time(BEFORE), short_time(BEHIND), tlv(0xA0, sequence(ISSUER_KEY, extension("2.5.29.20", integer(1)))))),
     }
+
+
+def repository(roas):
+    """The files of a publication point: these ROAs, and the CRL and manifest of the trust anchor."""
+    revoked = sequence(integer(1), SIGNATURE, name(ANCHOR.name), short_time(BEFORE), short_time(BEHIND), tlv(0xA0, sequence(ISSUER_KEY, extension("2.5.29.20", integer(1)))))
+    files = {**roas, "ta.crl": ANCHOR.signed(revoked)}
     listed = sequence(*(sequence(tlv(0x16, file.encode()), bits(hashlib.sha256(body).digest())) for file, body in sorted(files.items())))
     manifest = sequence(integer(1), long_time(BEFORE), long_time(BEHIND), oid(SHA256_OID), listed)
-    inherited = sequence(*(sequence(octets(family), NULL) for family in (four, six))), sequence(tlv(0xA0, NULL))
-    files["ta.mft"] = signed_object("1.2.840.113549.1.9.16.1.26", manifest, 9, "ta.mft", resources(*inherited))
+    inherited = sequence(*(sequence(octets(family), NULL) for family in (b"\0\1", b"\0\2"))), sequence(tlv(0xA0, NULL))
+    files["ta.mft"] = signed_object("1.2.840.113549.1.9.16.1.26", manifest, 2**31, "ta.mft", resources(*inherited))
     return files
 
 
@@ -180,7 +187,7 @@ def main(out, *rest):
     cache = f"{folder}/cache"
     os.makedirs(f"{cache}/rpki.example/repo")
     os.makedirs(f"{cache}/ta/example")
-    for file, body in repository().items():
+    for file, body in repository(five_roas()).items():
         open(f"{cache}/rpki.example/repo/{file}", "wb").write(body)
     open(f"{cache}/ta/example/ta.cer", "wb").write(anchor_certificate())
     open(f"{folder}/example.tal", "w").write("rsync://rpki.example/ta/ta.cer\n\n" + base64.encodebytes(ANCHOR.info).decode())
