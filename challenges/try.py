@@ -115,6 +115,9 @@ def try_crate(crate):
     for name, words in said.items():
         if name not in refused or "only" in words[:60]:
             print(f"{crate}/{name}: {words}")
+    if untried := [name for name, words in said.items() if words == "not tried"]:
+        print(f"{crate}: {len(untried)} weren't tried, so its line stays as it is")
+        return False
     line = f"{crate} {commit} refused={len(refused)} of={len(edits)}"
     print(line)
     lines = lines_of_tried()

@@ -7,7 +7,7 @@ ghost use Rattle.speaker_program.specs.ToldConfig.{config_of};
 ghost use Rattle.speaker_program.specs.Files.{AreOctetsAt, AreSettingsOf, IsTextAt};
 
 use crate::commanded_speaker::commanded;
-use crate::exceptions::said_of;
+use crate::exceptions::{nothing_said, said_at};
 use crate::fault::SpeakerFault;
 use crate::files::{lines_of, octets_at};
 use crate::help::{HELP, VERSION};
@@ -53,7 +53,7 @@ where
     ensures { OnOk result (IsChecked path.now) }
 {
     let settings = settings_at(rt, path)?;
-    let said = said_at(rt, &settings)?;
+    let said = said_there(rt, &settings)?;
     let speaker = speaker_of::<B, _>(rt, &settings, &said)?;
     tell_checked(path, &settings, &said, speaker.conf(), output)
 }
@@ -68,12 +68,15 @@ where
 }
 
 // What the SLURM file at the path of the settings says.
-fn said_at<R>(rt: &R, settings: &SpeakerSettings) -> Result<SlurmFile, SpeakerFault>
+fn said_there<R>(rt: &R, settings: &SpeakerSettings) -> Result<SlurmFile, SpeakerFault>
 where
     R: Files + AllocGlobal,
     ensures { IfOk result (AreSaidOf IsTextAt settings.now.slurm) }
 {
-    said_of(rt.alloc(), settings, &|path: &str| lines_of(rt, path))
+    let Some(path) = &settings.slurm else {
+        return nothing_said(rt.alloc());
+    };
+    said_at(rt.alloc(), path.as_str(), &|path: &str| lines_of(rt, path))
 }
 
 /// The speaker of the settings, which has obeyed these exceptions and then the commands in the file at their path.

@@ -37,8 +37,8 @@ where
     said_at(alloc, path.as_str(), texts)
 }
 
-// That nothing is said.
-fn nothing_said(alloc: Global) -> Result<SlurmFile, SpeakerFault>
+/// That nothing is said.
+pub(crate) fn nothing_said(alloc: Global) -> Result<SlurmFile, SpeakerFault>
     ensures fault { IfErr result (λ fault. ¬ (IsOfWords fault)) }
     ensures nothing { IfOk result (λ said. said ≡ nothing_said) }
 {
@@ -48,8 +48,8 @@ fn nothing_said(alloc: Global) -> Result<SlurmFile, SpeakerFault>
     }
 }
 
-// What the SLURM file of this path says.
-fn said_at<L: BufRead + Drop, M>(
+/// What the SLURM file of this path says.
+pub(crate) fn said_at<L: BufRead + Drop, M>(
     alloc: Global,
     path: &str,
     texts: &M,

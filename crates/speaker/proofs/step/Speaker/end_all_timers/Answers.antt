@@ -10,7 +10,7 @@ pub loop-slot-preserved : goal.loop-slot-preserved
 loop-slot-preserved g c =
     elim c.if-end_timers.branch [
       | then-end_timers w ↦
-          HasTicked-more _ _ _ _ c.end_timers.result _ _ c.loop-slot.invariant c.end_timers.ensures.ends c.end_timers.ensures.counted c.end_timers.ensures.rises (w.opened-is ∙ rw (w.only-opened.ensures, w.if-end_timers.true) refl)
+          HasTicked-more _ _ _ _ c.end_timers.result _ _ c.loop-slot.invariant c.end_timers.ensures.ends c.end_timers.ensures.counted c.end_timers.ensures.rises (w.opened-is ∙ rw (w.slot_bit-opened.ensures, w.if-end_timers.true) refl)
       | else-end_timers w ↦ HasTicked-more _ _ _ _ c.end_timers.result _ _ c.loop-slot.invariant c.end_timers.ensures.ends c.end_timers.ensures.counted c.end_timers.ensures.rises (w.opened-is ∙ rw w.if-end_timers.false refl)
     ]
 

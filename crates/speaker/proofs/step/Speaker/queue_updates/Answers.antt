@@ -15,7 +15,7 @@ loop-slot-smaller g c =
 
 pub loop-slot-preserved : goal.loop-slot-preserved
 loop-slot-preserved g c = (
-  QueuesAll-starved _ _ _ _ _ _ _ c.only-starved.ensures refl (QueuesAll-on _ _ _ _ c.loop-slot.invariant.0 c.pass.ensures.queues) c.starve.ensures.queues,
+  QueuesAll-starved _ _ _ _ _ _ _ c.slot_bit-starved.ensures refl (QueuesAll-on _ _ _ _ c.loop-slot.invariant.0 c.pass.ensures.queues) c.starve.ensures.queues,
   c.starve.ensures.counted ∙ c.pass.ensures.counted ∙ c.loop-slot.invariant.1,
   (let before = c.loop-slot.invariant.2 in let passed = c.pass.ensures.rises in let starved = c.starve.ensures.rises in omega (arith, before, passed, starved)),
 )

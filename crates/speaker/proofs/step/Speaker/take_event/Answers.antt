@@ -34,7 +34,7 @@ returns-clause-agrees g c = λ config r a.
           let stands = open_stands _ (sym ((rw w.begin_count-in-Bytes.ensures at w.is_open.ensures) found.0 found.1) ∙ w.if-is_open.true) in
           let peer = peer_of config r w.in-Bytes.slot found.0 c.args.self.now a.holds found.1 stands.1 in
           let until = OnErr-got w.hear.result _ w.hear.ensures.starved w.if-is_err.ensures.value in
-          rw (w.self-is, w.report-is, w.in-Bytes.is, c.nothing-report.ensures) (ready_starved config r w.in-Bytes.slot w.only.result _ peer.0 (begun c.args.self.now) w.hear.new.self w.only.ensures (rw w.begin_count-in-Bytes.ensures at until) peer.1 begins (omega arith))
+          rw (w.self-is, w.report-is, w.in-Bytes.is, c.nothing-report.ensures) (ready_starved config r w.in-Bytes.slot w.slot_bit.result _ peer.0 (begun c.args.self.now) w.hear.new.self w.slot_bit.ensures (rw w.begin_count-in-Bytes.ensures at until) peer.1 begins (omega arith))
       | in-Bytes+then-is_open+else-is_err w ↦
           let may = rw w.in-Bytes.is at c.requires in
           let found = accepted _ may_bring_octets may in
