@@ -11,3 +11,4 @@ pub mod Coming
 pub mod OtherSessions
 pub mod Moments
 pub mod Touches
+pub mod RefusedEvents

@@ -1,26 +1,16 @@
 -- How commands follow one another.
 use Rattle.std.proofs.Common.{◌≡◌, ◌+◌, ◌++◌, ◌∙◌, ℕ, Bool, true, false, List, [], ◌∷◌, Option, None, Some, IfSome, MatchOption, Result, Ok, Err, IfErr, inr, length, refl, sym, ap, subst, append_assoc, append-nil, if◌then◌else◌, is_ok, length-append, arith}
 use Rattle.std.specs.Io.BufRead.{drop_through}
-use Rattle.std.specs.Option.{option_map}
 use Rattle.std.specs.Result.{IsErrAnd}
-use Rattle.bgp_attr.specs.PathAttributes.{PathAttributes}
-use Rattle.bgp_conf.specs.Configuration.{peer_at}
 use Rattle.bgp_conf.specs.declared.command.Command.{Command}
 use Rattle.bgp_conf.specs.declared.refusal.Refusal.{Refusal}
 use Rattle.bgp_conf.specs.declared.refusal.Refusal.TheVariants.{NoMemory as Memory}
-use Rattle.net_prefix.specs.declared.prefix.Prefix.{Prefix}
-use Rattle.routing.proofs.KeptOffers.{kept_same}
-use Rattle.runs.proofs.PeerRoutes.{peers_same}
-use Rattle.runs.specs.Agreement.{Agrees, CacheAgrees, SlotAgrees}
+use Rattle.runs.proofs.RefusedEvents.{err_of}
+use Rattle.runs.specs.Agreement.{Agrees}
 use Rattle.runs.specs.FirstRefusal.{LacksMemory, refusal_of}
-use Rattle.routing.specs.Linked.{Linked}
-use Rattle.runs.specs.Runs.{Run, Turn, cache_history, history}
-use Rattle.runs.specs.SpeakerState.{IsAsBefore, SpeakerState, tables_of}
-use Rattle.routing.specs.Tables.{link_at, network_route, payloads_under}
-use Rattle.runs.specs.declared.config.Config.{Config}
-use Rattle.runs.specs.declared.event.Event.{Event}
+use Rattle.runs.specs.Runs.{Run, Turn}
+use Rattle.runs.specs.SpeakerState.{SpeakerState}
 use Rattle.runs.specs.declared.event.Event.TheVariants.{Command as Commanded}
-use Rattle.runs.specs.declared.event.Report.{Report}
 use Rattle.scenario.specs.CommandFaults.{NamesLine, TellsRefusal, unread_at}
 use Rattle.command_lines.specs.CommandWords.{SayNone, Says, SaysLine}
 use Rattle.command_lines.specs.Words.{Reads, words_in}
@@ -78,45 +68,6 @@ obeys_command line command old new says said takes config r agrees =
 pub obeys_line : (line : List ℕ) (command : Command) (result : Result (Unit {0}) CommandsFault) (old new : SpeakerState) → says_nothing line ≡ false → Says (words_in (without_end line)) command → Takes command result old new → Obeys (if is_ok result then line ∷ [] else []) old new
 obeys_line line command (Ok done) old new says said takes = obeys_command line command old new says said takes
 obeys_line line command (Err fault) old new says said takes = λ config r agrees. ([], refl, takes config r agrees)
-
--- a speaker of which nothing that others see has changed agrees with the same runs
-agrees_as_before : (config : Config) (r : Run) (old new : SpeakerState) → IsAsBefore old new → Agrees config r old → Agrees config r new
-agrees_as_before config r old new same a = record {
-  holds = record {
-    config_is = same.config ∙ a.holds.config_is;
-    moment = same.moment ∙ a.holds.moment;
-    conf = same.conf ∙ a.holds.conf;
-    cache = subst (λ x. CacheAgrees config (cache_history r) x) (sym same.cache) a.holds.cache;
-    payloads = same.payloads ∙ a.holds.payloads;
-    peers = rw same.conf a.holds.peers;
-    slots = λ t.
-        let R : (Prefix → Option PathAttributes) → Type 0 = λ x. SlotAgrees config (peer_at old.conf t) (link_at old.links t) x (history config t r) in
-        rw (same.conf, same.links t) (subst R (λ i p. sym (peers_same old.adj_in new.adj_in t (same.routes t) p) i) (a.holds.slots t));
-    networks = λ p. same.routes 64 p ∙ a.holds.networks p ∙ ap (λ c. network_route c p) (sym same.conf);
-    kept = kept_same (tables_of old) (tables_of new) _ _ tables (λ i s p. same.offers s p i) a.holds.kept;
-    chosen = rw (same.chosen, same.chosen_before) a.holds.chosen;
-  };
-  loc_rib = rw same.loc_rib a.loc_rib;
-  settled = a.settled;
-  thrifty = a.thrifty;
-}
-  where
-    tables : tables_of old ≡ tables_of new
-    tables i = record {
-      conf = sym same.conf i;
-      payloads = payloads_under (sym same.conf i) (sym same.payloads i);
-      sessions = λ s. option_map (λ (l : Linked). l.peer.session) (sym (same.links s) i);
-      routes = λ s p. sym (same.routes s p) i;
-    }
-
-abbrev err_of : Refusal → Result Report Refusal
-err_of why = Err why
-
--- a refused command is none
-pub takes_nothing : (first : Option Refusal) (event : Event) (why : Refusal) (old new : SpeakerState)
-    → MatchOption first ((why ≡ Memory) × LacksMemory event old new) (λ w. (err_of why ≡ err_of w) × (new ≡ old)) → (config : Config) (r : Run) → Agrees config r old → Agrees config r new
-takes_nothing None event why old new lacks config r agrees = agrees_as_before config r old new lacks.1.1 agrees
-takes_nothing (Some w) event why old new same config r agrees = rw same.1 agrees
 
 -- the lines before the one of this number were read, and the others are left
 pub record IsReadUpTo (left : Option (List ℕ)) (number : ℕ) (read : List (List ℕ)) (text : List ℕ) : Type 0 where

@@ -1,27 +1,22 @@
 use Rattle.std.proofs.Common.{◌≡◌, ◌≤◌, ◌<◌, ◌++◌, ◌==◌, ℕ, zero, suc, IfOk, IfErr, Bool, true, false, cond, List, [], ◌∷◌, Option, Some, None, Result, Ok, Err, refl, sym, ap, ◌∙◌, subst, arith}
-use Rattle.std.specs.Option.{MatchOption, option_map}
+use Rattle.std.specs.Option.{MatchOption}
 use Rattle.bgp_conf.specs.declared.refusal.Refusal.{Refusal}
 use Rattle.bgp_conf.specs.declared.refusal.Refusal.TheVariants.{NoMemory}
-use Rattle.decision.specs.BookContents.{offer_at}
-use Rattle.bgp_attr.specs.PathAttributes.{PathAttributes}
-use Rattle.bgp_conf.specs.Configuration.{peer_at}
 use Rattle.net_prefix.specs.declared.prefix.Prefix.{Prefix}
-use Rattle.runs.specs.Agreement.{CacheAgrees, Agrees, SlotAgrees, tables_after}
+use Rattle.runs.proofs.RefusedEvents.{agrees_as_before}
+use Rattle.runs.specs.Agreement.{CacheAgrees, Agrees, tables_after}
 use Rattle.routing.specs.LocRib.{HasNoCandidate}
-use Rattle.routing.specs.Tables.{link_at, network_route}
+use Rattle.routing.specs.Tables.{network_route}
 use Rattle.routing.proofs.CandidateLists.{none_routed}
-use Rattle.runs.proofs.PeerRoutes.{peer_none, peers_same}
+use Rattle.runs.proofs.PeerRoutes.{peer_none}
 use Rattle.rtr_session.specs.SessionState.{configured}
 use Rattle.runs.specs.FirstRefusal.{refusal_in, refusal_of, Grows, LacksMemory}
-use Rattle.routing.specs.Linked.{Linked}
 use Rattle.runs.specs.Played.{Follows, GoesOn, IsPlayed, Point, beginning}
-use Rattle.runs.specs.Runs.{cache_history, history, Run, Turn, asked, call_of, configuration_of, report_of}
-use Rattle.runs.specs.SpeakerState.{SpeakerState, IsAsBefore, started, tables_of}
+use Rattle.runs.specs.Runs.{Run, Turn, asked, call_of, configuration_of, report_of}
+use Rattle.runs.specs.SpeakerState.{SpeakerState, started, tables_of}
 use Rattle.runs.specs.declared.config.Config.{Config}
 use Rattle.runs.specs.declared.event.Event.{Event}
 use Rattle.runs.specs.declared.event.Report.{Report}
-use Rattle.routing.proofs.KeptOffers.{kept_same}
-use Rattle.speaker.proofs.KeptOffers.{in_force_kept}
 use Rattle.speaker.proofs.Refusals.{refusal_same}
 use Rattle.routing.proofs.WaitingLists.{nothing_rises}
 
@@ -82,36 +77,6 @@ follows_more config before [] (a ∷ answers) mid after event answer follows on 
 follows_more config before (e ∷ events) [] mid after event answer follows on = absurd follows
 follows_more config before (e ∷ events) (a ∷ answers) mid after event answer follows on =
     (follows.0, follows.1, follows_more config follows.0 events answers mid after event answer follows.2 on)
-
--- nothing that others see has changed
-agrees_same : (config : Config) (r : Run) (old new : SpeakerState) → IsAsBefore old new → Agrees config r old → Agrees config r new
-agrees_same config r old new same a = record {
-  holds = record {
-    config_is = same.config ∙ a.holds.config_is;
-    moment = same.moment ∙ a.holds.moment;
-    conf = same.conf ∙ a.holds.conf;
-    cache = subst (λ x. CacheAgrees config (cache_history r) x) (sym same.cache) a.holds.cache;
-    payloads = same.payloads ∙ a.holds.payloads;
-    peers = rw same.conf a.holds.peers;
-    slots = λ t.
-        let R : (Prefix → Option PathAttributes) → Type 0 = λ x. SlotAgrees config (peer_at old.conf t) (link_at old.links t) x (history config t r) in
-        rw (same.conf, same.links t) (subst R (λ i p. sym (peers_same old.adj_in new.adj_in t (same.routes t) p) i) (a.holds.slots t));
-    networks = λ p. same.routes 64 p ∙ a.holds.networks p ∙ ap (λ c. network_route c p) (sym same.conf);
-    kept = kept_same (tables_of old) (tables_of new) (offer_at old.book) (offer_at new.book) tables (λ i s p. same.offers s p i) a.holds.kept;
-    chosen = rw (same.chosen, same.chosen_before) a.holds.chosen;
-  };
-  loc_rib = rw same.loc_rib a.loc_rib;
-  settled = a.settled;
-  thrifty = a.thrifty;
-}
-  where
-    tables : tables_of old ≡ tables_of new
-    tables i = record {
-      conf = sym same.conf i;
-      payloads = sym (in_force_kept old new same.conf same.payloads) i;
-      sessions = λ s. option_map (λ (l : Linked). l.peer.session) (sym (same.links s) i);
-      routes = λ s p. sym (same.routes s p) i;
-    }
 
 pub played_none : (config : Config) (s : SpeakerState) → Agrees config [] s → s ≡ started config → IsPlayed config [] [] s
 played_none config s agrees is = record {
@@ -181,7 +146,7 @@ refused_more config events answers event why s new (Some w) h is m =
     played_err config events answers event why s new h (subst M (sym is) same) (λ r a. rw m.1 a) (ap (λ (x : SpeakerState). x.chosen) m.1) (ap (λ (x : SpeakerState). x.chosen_before) m.1)
 refused_more config events answers event why s new None h is m =
     let M : Option Refusal → Type 0 = λ first. MatchOption first ((why ≡ NoMemory) × Grows (configuration_of config h.end.run) event) (λ x. why ≡ x) in
-    played_err config events answers event why s new h (subst M (sym is) (m.0, subst (λ conf. Grows conf event) h.agrees.holds.conf m.1.0)) (λ r a. agrees_same config r s new m.1.1 a) m.1.1.chosen m.1.1.chosen_before
+    played_err config events answers event why s new h (subst M (sym is) (m.0, subst (λ conf. Grows conf event) h.agrees.holds.conf m.1.0)) (λ r a. agrees_as_before config r s new m.1.1 a) m.1.1.chosen m.1.1.chosen_before
 
 -- one more event
 pub played_more : (config : Config) (events : List Event) (answers : List (Result Report Refusal)) (event : Event) (answer : Result Report Refusal) (s new : SpeakerState)

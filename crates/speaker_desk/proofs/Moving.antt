@@ -13,7 +13,7 @@ use Rattle.runs.specs.SpeakerState.{SpeakerState}
 use Rattle.runs.specs.declared.config.Config.{Config}
 use Rattle.runs.specs.declared.event.Event.TheVariants.{Command as Commanded}
 use Rattle.runs.specs.declared.event.Report.{Report}
-use Rattle.scenario.proofs.ObeyedCommands.{takes_nothing}
+use Rattle.runs.proofs.RefusedEvents.{takes_nothing}
 use Rattle.wires.specs.declared.fault.LoopFault.TheVariants.{Accept}
 use Rattle.wires.proofs.Sockets.{IsIdle}
 use Rattle.speaker_turns.specs.Carrying.{CarriesOwn, ComesLast, IsFresh, StaysUp, handed, heard}

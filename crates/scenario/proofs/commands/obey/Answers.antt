@@ -1,4 +1,5 @@
-use Rattle.scenario.proofs.ObeyedCommands.{refusal_told, takes_nothing}
+use Rattle.runs.proofs.RefusedEvents.{takes_nothing}
+use Rattle.scenario.proofs.ObeyedCommands.{refusal_told}
 use Rattle.std.proofs.Common.{refl}
 use Rattle.runs.specs.declared.event.Event.TheVariants.{Command as Commanded}
 use Rattle.scenario.proofs.commands.obey.Goals as goal
