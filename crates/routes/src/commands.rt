@@ -1,8 +1,9 @@
 //! What commands do to the tables.
-ghost use Rattle.std.specs.Prelude.{◌≡◌, ◌≤◌, ◌+◌, ◌==◌, ℕ, List, [], true, false, None, Some, OnOk, OnErr, length, if◌then◌else◌};
+ghost use Rattle.std.specs.Prelude.{◌≡◌, ◌≤◌, ◌+◌, ◌==◌, ℕ, List, [], true, false, None, Some, IfOk, OnOk, OnErr, length, if◌then◌else◌};
 ghost use Rattle.std.specs.BTreeMap.{is_at};
 ghost use Rattle.std.specs.Option.{IsSome, is_some};
 ghost use Rattle.std.specs.Ordering.{nat_cmp};
+ghost use Rattle.bgp_attr.specs.PathAttributes.{originated};
 ghost use Rattle.bgp_conf.specs.ConfAfter.{TakesMemory, conf_after, is_network_after, peer_after};
 ghost use Rattle.bgp_conf.specs.Configuration.{is_network, peer_at};
 ghost use Rattle.bgp_conf.specs.FirstRefusal.{IsAccepted};
@@ -20,15 +21,14 @@ ghost use Rattle.routing.specs.RoutesState.{BringsNetwork, IsSet, StaysAsIs, tab
 ghost use Rattle.routing.specs.Tables.{link_at};
 
 use crate::routes::Routes;
-use bgp_attr::Attrs;
+use bgp_attr::{Attrs, Mode};
 use bgp_conf::{Command, PeerConf};
 use bgp_fsm::PeerTimers;
 use bgp_msg::OwnOpen;
 use decision::{Book, LOCAL_SLOT};
 use net_prefix::Prefix;
-use routing::{Link, choose_again, choose_slot, judge_network};
+use routing::{Link, Links, choose_again, choose_slot, judge_network};
 use std::alloc::{AllocError, Allocator};
-use std::collections::BTreeMap;
 use std::rc::Rc;
 
 impl<A: Allocator + Clone, B: Book<A>> Routes<A, B> {
@@ -52,8 +52,7 @@ impl<A: Allocator + Clone, B: Book<A>> Routes<A, B> {
         ensures err { OnErr result (StaysAsIs self.old self.new) }
         ensures payloads { self.new.payloads ≡ self.old.payloads }
     {
-        let link = Link::new(alloc.clone()?, own, conf.mode, times)?;
-        let before = self.links.insert(slot, link)?;
+        let before = put_link(&mut self.links, alloc, slot, own, conf.mode, times)?;
         if self.conf.apply(command).is_err() {
             put_back(&mut self.links, slot, before);
             return Err(AllocError);
@@ -200,7 +199,7 @@ impl<A: Allocator + Clone, B: Book<A>> Routes<A, B> {
         ensures err { OnErr result (StaysAsIs self.old self.new) }
         ensures payloads { self.new.payloads ≡ self.old.payloads }
     {
-        let attrs = Rc::new(alloc.clone()?, Attrs::originated(alloc.clone()?))?;
+        let attrs = originated_attrs(alloc)?;
         let network = judge_network(&self.conf, &self.payloads, prefix, &attrs);
         self.routing.announce(
             &self.conf,
@@ -209,8 +208,7 @@ impl<A: Allocator + Clone, B: Book<A>> Routes<A, B> {
             prefix,
             attrs,
             Some(network),
-        )?;
-        Ok(())
+        )
     }
 
     /// A prefix is no local network any more. It takes no memory.
@@ -232,12 +230,26 @@ impl<A: Allocator + Clone, B: Book<A>> Routes<A, B> {
     }
 }
 
-// Makes a slot what it was before it was written.
-fn put_back<A: Allocator + Clone>(
-    links: &mut BTreeMap<u8, Link<A>, A>,
+// Writes a slot anew, in Idle and disabled. Answers what it was.
+fn put_link<A: Allocator + Clone>(
+    links: &mut Links<A>,
+    alloc: &A,
     slot: u8,
-    before: Option<Link<A>>,
-)
+    own: OwnOpen,
+    mode: Mode,
+    times: PeerTimers,
+) -> Result<Option<Link<A>>, AllocError>
+    ensures puts { OnOk result ((s : ℕ) → link_at links.new.entries s ≡ (if is_at (nat_cmp slot) s then Some (record { peer = configured own mode times; adj_out = [] }) else link_at links.old.entries s)) }
+    ensures before { IfOk result (λ before. before ≡ link_at links.old.entries slot) }
+    ensures err { OnErr result (links.new.entries ≡ links.old.entries) }
+{
+    let link = Link::new(alloc.clone()?, own, mode, times)?;
+    let before = links.insert(slot, link)?;
+    Ok(before)
+}
+
+// Makes a slot what it was before it was written.
+fn put_back<A: Allocator + Clone>(links: &mut Links<A>, slot: u8, before: Option<Link<A>>)
     requires { IsSome (link_at links.old.entries slot) }
     ensures { (s : ℕ) → link_at links.new.entries s ≡ (if is_at (nat_cmp slot) s then before else link_at links.old.entries s) }
 {
@@ -249,4 +261,12 @@ fn put_back<A: Allocator + Clone>(
             links.remove(&slot);
         }
     }
+}
+
+// The attributes of a local network's route.
+fn originated_attrs<A: Allocator + Clone>(alloc: &A) -> Result<Rc<Attrs<A>, A>, AllocError>
+    ensures { IfOk result (λ attrs. attrs.value ≡ originated) }
+{
+    let attrs = Rc::new(alloc.clone()?, Attrs::originated(alloc.clone()?))?;
+    Ok(attrs)
 }

@@ -1,7 +1,5 @@
-use Rattle.std.proofs.Common.{◌≡◌, false, refl, ap}
+use Rattle.std.proofs.Common.{◌≡◌, refl, ap}
 use Rattle.bgp_conf.specs.Configuration.{Configuration}
-use Rattle.bgp_fsm.specs.StateTests.{is_established}
-use Rattle.routing.specs.Linked.{Linked}
 use Rattle.routes.proofs.AddedMarks.{marked_added, marked_links}
 use Rattle.routes.proofs.SlotMarks.{IsNow}
 use Rattle.routes.proofs.PutSlots.{put_back, put_inserted, sound_added}
@@ -12,13 +10,12 @@ pub invariant_of-self-else-is_err : goal.invariant_of-self-else-is_err
 invariant_of-self-else-is_err g c =
     let accepted = rw (← c.self.view_is) at c.requires.accepted in
     let may = rw c.requires.adds at accepted in
-    let put : IsNow c.args.slot c.in_ok-link.link c.self.inside.links.entries c.insert.new.self.entries = put_inserted c.args.slot c.in_ok-link.link c.in_ok-link.link _ _ c.in_ok-before.ensures.updates.0 refl in
-    let down : is_established c.in_ok-link.link.peer.session.state ≡ false = ap (λ (l : Linked). is_established l.peer.session.state) c.in_ok-link.ensures in
+    let put : IsNow c.args.slot _ c.self.inside.links.entries c.put_link.new.links.entries = put_inserted c.args.slot _ _ _ _ c.in_ok-before.ensures.puts refl in
     let conf = OnOk-got c.apply.result _ c.apply.ensures.ok c.if-is_err.ensures.value in
     let peers = OnOk-got c.apply.result _ c.apply.ensures.peers c.if-is_err.ensures.value in
     let own : c.apply.new.self.own ≡ c.self.inside.conf.own = ap (λ (x : Configuration). x.own) (rw c.requires.adds at conf) in
     let policies : c.apply.new.self.policies ≡ c.self.inside.conf.policies = ap (λ (x : Configuration). x.policies) (rw c.requires.adds at conf) in
-    let added = marked_added _ c.self.inside.conf c.apply.new.self c.self.inside.links.entries _ c.self.inside.routing c.args.slot c.args.conf.now c.in_ok-link.link c.self.invariant.1 may.1 own policies (rw c.requires.adds at peers) put down in
+    let added = marked_added _ c.self.inside.conf c.apply.new.self c.self.inside.links.entries _ c.self.inside.routing c.args.slot c.args.conf.now _ c.self.invariant.1 may.1 own policies (rw c.requires.adds at peers) put refl in
     (sound_added _ _ _ _ c.args.slot c.args.conf.now c.self.invariant.0 (c.apply.ensures.addresses _ accepted.1 c.self.invariant.0.addresses) may.1 (rw c.requires.adds at peers), added)
 
 pub invariant_of-self-then-is_err : goal.invariant_of-self-then-is_err
@@ -27,11 +24,11 @@ invariant_of-self-then-is_err g c =
     rw same (
       c.self.invariant.0,
       marked_links c.self.inside.conf c.self.inside.links.entries _ c.self.inside.routing c.self.invariant.1
-          (put_back c.args.slot c.in_ok-link.link c.in_ok-before.before _ _ _ c.in_ok-before.ensures.updates.0 c.put_back.ensures c.in_ok-before.ensures.old),
+          (put_back c.args.slot _ c.in_ok-before.before _ _ _ c.in_ok-before.ensures.puts c.put_back.ensures c.in_ok-before.ensures.before),
     )
 
 pub returns-clause-puts : goal.returns-clause-puts
-returns-clause-puts g c = rw (← c.self.view_is) (put_inserted c.args.slot c.in_ok-link.link _ _ _ c.in_ok-before.ensures.updates.0 c.in_ok-link.ensures)
+returns-clause-puts g c = rw (← c.self.view_is) (put_inserted c.args.slot _ _ _ _ c.in_ok-before.ensures.puts refl)
 
 pub returns-then-is_err-clause-err : goal.returns-then-is_err-clause-err
 returns-then-is_err-clause-err g c =
@@ -39,7 +36,7 @@ returns-then-is_err-clause-err g c =
     rw (← c.self.view_is) (record {
       conf = same;
       payloads = refl;
-      links = put_back c.args.slot c.in_ok-link.link c.in_ok-before.before _ _ _ c.in_ok-before.ensures.updates.0 c.put_back.ensures c.in_ok-before.ensures.old;
+      links = put_back c.args.slot _ c.in_ok-before.before _ _ _ c.in_ok-before.ensures.puts c.put_back.ensures c.in_ok-before.ensures.before;
       routes = λ s p. refl;
       offers = λ s p. refl;
       rows = refl;
