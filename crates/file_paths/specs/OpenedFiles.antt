@@ -8,6 +8,10 @@ pub record OpenedFile : Type 0 where
   pub text : Option (List ℕ)
   pub stamp : Option Stamp
 
+-- the text is that of a file that was opened at the path
+abbrev pub IsTextAt : List ℕ → Option (List ℕ) → Type 0
+IsTextAt path text = (file : OpenedFile) × (file.path ≡ path) × (text ≡ file.text)
+
 -- the octets are those of the text, where that is known
 abbrev pub AreOctetsOf : Option (List ℕ) → List ℕ → Type 0
 AreOctetsOf text octets = (known : List ℕ) → text ≡ Some known → octets ≡ known

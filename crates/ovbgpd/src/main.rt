@@ -5,6 +5,7 @@
 //! why, stands on standard error.
 #![tactic(auto)]
 
+use file_paths::SystemFiles;
 use live_book::LiveBook;
 use speaker_program::main_bgp;
 use std::io::LineWriter;
@@ -20,7 +21,9 @@ fn run(rt: &HostRuntime) -> io::Result<u8> {
     let words = words(rt)?;
     let mut output = LineWriter::new(rt.alloc(), io::writer(rt))?;
     let mut errors = rt.stderr();
-    let status = main_bgp::<LiveBook, _, _, _>(rt, words.as_slice(), &mut output, &mut errors);
+    let files = SystemFiles::new(rt);
+    let words = words.as_slice();
+    let status = main_bgp::<LiveBook, _, _, _, _>(rt, &files, words, &mut output, &mut errors);
     Ok(status)
 }
 

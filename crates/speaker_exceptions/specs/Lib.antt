@@ -1,2 +1,3 @@
 pub mod ExceptionExits
 pub mod ObeyedExceptions
+pub mod SlurmFigures

@@ -1,6 +1,6 @@
 //! Handing the exceptions to a speaker.
-ghost use Rattle.std.specs.Prelude.{◌≡◌, OnOk, map};
-ghost use Rattle.speaker_exceptions.specs.ObeyedExceptions.{Obeys, ObeysOne, command_of_assertion, command_of_filter, commands_of};
+ghost use Rattle.std.specs.Prelude.{◌≡◌, map};
+ghost use Rattle.speaker_exceptions.specs.ObeyedExceptions.{ObeysOne, ObeysUpTo, command_of_assertion, command_of_filter, commands_of};
 
 use bgp_conf::Command;
 use decision::Book;
@@ -15,7 +15,7 @@ pub fn obey_exceptions<B: Book<Global>>(
     exceptions: &Exceptions,
     speaker: &mut Speaker<Global, B>,
 ) -> Result<(), Refusal>
-    ensures { OnOk result (Obeys (commands_of exceptions.now) speaker.old speaker.new) }
+    ensures { ObeysUpTo (commands_of exceptions.now) result speaker.old speaker.new }
 {
     obey_filters(exceptions.filters(), speaker)?;
     obey_assertions(exceptions.assertions(), speaker)
@@ -25,7 +25,7 @@ fn obey_filters<B: Book<Global>>(
     filters: &BTreeSet<Filter>,
     speaker: &mut Speaker<Global, B>,
 ) -> Result<(), Refusal>
-    ensures { OnOk result (Obeys (map command_of_filter filters.now.keys) speaker.old speaker.new) }
+    ensures { ObeysUpTo (map command_of_filter filters.now.keys) result speaker.old speaker.new }
 {
     for filter in filters {
         obey(command_of_filter(*filter), speaker)?;
@@ -37,7 +37,7 @@ fn obey_assertions<B: Book<Global>>(
     assertions: &BTreeSet<Vrp>,
     speaker: &mut Speaker<Global, B>,
 ) -> Result<(), Refusal>
-    ensures { OnOk result (Obeys (map command_of_assertion assertions.now.keys) speaker.old speaker.new) }
+    ensures { ObeysUpTo (map command_of_assertion assertions.now.keys) result speaker.old speaker.new }
 {
     for payload in assertions {
         obey(command_of_assertion(*payload), speaker)?;
@@ -67,7 +67,7 @@ fn obey<B: Book<Global>>(
     command: Command<'_>,
     speaker: &mut Speaker<Global, B>,
 ) -> Result<(), Refusal>
-    ensures { OnOk result (ObeysOne command.entry speaker.old speaker.new) }
+    ensures { ObeysOne command.entry result speaker.old speaker.new }
 {
     match speaker.step(Event::Command(command)) {
         Ok(_) => Ok(()),

@@ -1,7 +1,9 @@
 -- The commands of a text.
-use Rattle.std.proofs.Common.{◌≡◌, List, ℕ, [], OnOk, Option, Some, Result, Ok, Err, ap, append-nil, subst, sym}
+use Rattle.std.proofs.Common.{◌≡◌, ◌↔◌, ◌⊎◌, ◌∙◌, inl, inr, true, List, ℕ, [], OnOk, Option, Some, Result, Ok, Err, ap, append-nil, subst, sym}
 use Rattle.std.specs.Result.{IsErrAnd}
 use Rattle.file_paths.specs.OpenedFiles.{AreOctetsOf}
+use Rattle.bgp_conf.specs.declared.refusal.Refusal.{Refusal}
+use Rattle.bgp_conf.specs.declared.refusal.Refusal.TheVariants.{Range, NoMemory as NoMemoryOfSpeaker}
 use Rattle.local_exceptions.specs.ExceptionSets.{ExceptionSets}
 use Rattle.scenario.specs.CommandFaults.{IsOutside}
 use Rattle.scenario.specs.FileLines.{lines}
@@ -9,7 +11,7 @@ use Rattle.scenario.specs.ObeyedCommands.{Obeys, ObeysBefore}
 use Rattle.scenario.specs.declared.commands.CommandsFault.{CommandsFault}
 use Rattle.scenario.specs.declared.commands.CommandsFault.TheVariants.{BadLine, Refused, Device, NoMemory}
 use Rattle.runs.specs.Agreement.{Agrees}
-use Rattle.runs.specs.SpeakerState.{SpeakerState}
+use Rattle.runs.specs.SpeakerState.{SpeakerState, is_out_of_range}
 use Rattle.runs.specs.declared.config.Config.{Config}
 use Rattle.speaker_exceptions.specs.ObeyedExceptions.{Obeys as ObeysExceptions, commands_of}
 use Rattle.speaker_program.specs.Commanded.{IsCommanded, IsCommandedBy, ObeysText}
@@ -44,3 +46,8 @@ commanded_by exceptions text config old mid new agrees excepts obeys =
     let first = excepts config [] agrees in
     let more = obeys.2 config first.0 (rw append-nil at first.2) in
     (obeys.0, first.0, more.0, first.1, obeys.1, more.1, more.2)
+
+-- why no speaker is made
+pub unmade : (config : Config) (why : Refusal) (made : Result SpeakerState Refusal) → made ≡ Err why → ((made ≡ Err Range) ↔ (is_out_of_range config ≡ true)) → (why ≡ Range) ⊎ (why ≡ NoMemoryOfSpeaker) → ((why ≡ Range) × (is_out_of_range config ≡ true)) ⊎ (why ≡ NoMemoryOfSpeaker)
+unmade config why made is range (inl out) = inl (out, range.0 (is ∙ ap (λ (w : Refusal). Err w) out))
+unmade config why made is range (inr memory) = inr memory

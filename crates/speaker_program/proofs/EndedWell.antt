@@ -14,6 +14,7 @@ use Rattle.speaker_program.specs.Commanded.{AreSaidOf}
 use Rattle.speaker_program.specs.HeldBack.{waits}
 use Rattle.speaker_program.specs.Checked.{IsChecked, IsCheckedBy}
 use Rattle.speaker_program.specs.Endings.{EndsSo, status_at_end}
+use Rattle.speaker_program.specs.Files.{AreOctetsAt}
 use Rattle.speaker_program.specs.Exits.{exit_of_fault}
 use Rattle.speaker_program.specs.declared.fault.SpeakerFault.{SpeakerFault}
 use Rattle.speaker_settings.specs.declared.settings.SpeakerSettings.{SpeakerSettings}
@@ -97,21 +98,41 @@ zero_is_well (Ok done) zero is = is
 zero_is_well (Err fault) zero is = absurd (never_zero (exit_of_fault fault) zero)
 
 -- words ask for one thing
-pub one_aside : (words : List (String Global)) (a b : Aside) → Asks words a → Asks words b → IsCheckedBy a → IsCheckedBy b
-one_aside words a Help x y is = tt
-one_aside words a Version x y is = tt
-one_aside [] (Check path) (Check other) x y is = absurd y
-one_aside (word ∷ []) (Check path) (Check other) x y is = absurd y
-one_aside (word ∷ settings ∷ []) (Check path) (Check other) x y is = subst IsChecked (x.1 ∙ sym y.1) is
-one_aside (word ∷ settings ∷ more ∷ words) (Check path) (Check other) x y is = absurd y
-one_aside [] Help (Check other) x y is = absurd y
-one_aside (word ∷ []) Help (Check other) x y is = absurd y
-one_aside (word ∷ settings ∷ []) Help (Check other) x y is = absurd x
-one_aside (word ∷ settings ∷ more ∷ words) Help (Check other) x y is = absurd y
-one_aside [] Version (Check other) x y is = absurd y
-one_aside (word ∷ []) Version (Check other) x y is = absurd y
-one_aside (word ∷ settings ∷ []) Version (Check other) x y is = absurd x
-one_aside (word ∷ settings ∷ more ∷ words) Version (Check other) x y is = absurd y
+pub one_aside : (Opened : List ℕ → Option (List ℕ) → Type 0) (words : List (String Global)) (a b : Aside) → Asks words a → Asks words b → IsCheckedBy Opened a → IsCheckedBy Opened b
+one_aside Opened words a Help x y is = tt
+one_aside Opened words a Version x y is = tt
+one_aside Opened [] (Check path) (Check other) x y is = absurd y
+one_aside Opened (word ∷ []) (Check path) (Check other) x y is = absurd y
+one_aside Opened (word ∷ settings ∷ []) (Check path) (Check other) x y is = subst (IsChecked (AreOctetsAt Opened) Opened) (x.1 ∙ sym y.1) is
+one_aside Opened (word ∷ settings ∷ more ∷ words) (Check path) (Check other) x y is = absurd y
+one_aside Opened [] Help (Check other) x y is = absurd y
+one_aside Opened (word ∷ []) Help (Check other) x y is = absurd y
+one_aside Opened (word ∷ settings ∷ []) Help (Check other) x y is = absurd x
+one_aside Opened (word ∷ settings ∷ more ∷ words) Help (Check other) x y is = absurd y
+one_aside Opened [] Version (Check other) x y is = absurd y
+one_aside Opened (word ∷ []) Version (Check other) x y is = absurd y
+one_aside Opened (word ∷ settings ∷ []) Version (Check other) x y is = absurd x
+one_aside Opened (word ∷ settings ∷ more ∷ words) Version (Check other) x y is = absurd y
+
+-- a text that was opened there is one that was opened here
+pub opened_as : (Opened : List ℕ → Option (List ℕ) → Type 0) (there here : List ℕ) (held text : Option (List ℕ)) → there ≡ here → text ≡ held → Opened there held → Opened here text
+opened_as Opened there here held text path same is = subst (λ (p : List ℕ). Opened p text) path (subst (λ (t : Option (List ℕ)). Opened there t) (sym same) is)
+
+-- settings that were checked were checked of what is read so, and of texts that are told so
+pub checked_as : (Read Reads : List ℕ → List ℕ → Type 0) (Told Tells : List ℕ → Option (List ℕ) → Type 0) (path : List ℕ) → IsChecked Read Told path → ((octets : List ℕ) → Read path octets → Reads path octets) → ((at : List ℕ) (text : Option (List ℕ)) → Told at text → Tells at text)
+    → IsChecked Reads Tells path
+checked_as Read Reads Told Tells path is reads tells =
+    record {
+      settings = is.settings;
+      read = record { octets = is.read.octets; read = reads is.read.octets is.read.read; table = is.read.table; spelled = is.read.spelled; told = is.read.told };
+      said = is.said;
+      excepted = said_as Told Tells is.settings.slurm is.said is.excepted tells;
+      text = is.text;
+      given = tells (string_bytes is.settings.commands) is.text is.given;
+      speaker = is.speaker;
+      commanded = is.commanded;
+      slots = is.slots;
+    }
 
 -- what holds anyway, holds where all went well
 pub on_ok_of : {T E : Type 0} {P : Type 0} (r : Result T E) → P → OnOk r P

@@ -7,3 +7,4 @@ pub mod Files
 pub mod HeldBack
 pub mod Slots
 pub mod ToldConfig
+pub mod Unbegun

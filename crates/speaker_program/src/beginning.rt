@@ -1,9 +1,12 @@
 //! The loop of the settings, before its first turn.
-ghost use Rattle.std.specs.Prelude.{◌≡◌, Ok, Some, IfErr, IfOk};
+ghost use Rattle.std.specs.Prelude.{◌≡◌, Ok, Err, Some, IfErr, IfOk, false};
+ghost use Rattle.std.specs.declared.io.Error.{Error as IoError};
 ghost use Rattle.std.specs.Fn.{FnReturnsAt};
 ghost use Rattle.speaker_program.specs.Endings.{IsOfWords};
 ghost use Rattle.speaker_program.specs.Commanded.{TextAt};
 ghost use Rattle.speaker_program.specs.Begun.{IsBegun, StateFrom, is_watched, patience_of, with_remotes};
+ghost use Rattle.speaker_program.specs.Unbegun.{IsUnbegun};
+ghost use Rattle.speaker_program.specs.declared.fault.SpeakerFault.TheVariants.{Listen};
 
 use crate::commanded_speaker::commanded;
 use crate::exceptions::{said_of, tell_said};
@@ -41,6 +44,8 @@ where
     ensures fault { IfErr result (λ fault. ¬ (IsOfWords fault)) }
     ensures begins { IfOk result (λ served. IsBegun (TextAt (λ path lines. FnReturnsAt M.Fn texts.now path (Ok lines)) L.remaining)
         (StateFrom (λ wire. F.post opens settings.now.listen (is_watched settings.now) (Ok wire)) W.state) settings.now served) }
+    ensures unbegun { IfErr result (IsUnbegun (λ path answer. FnReturnsAt M.Fn texts.now path answer) L.remaining (λ wire. F.post opens settings.now.listen (is_watched settings.now) wire) settings.now) }
+    ensures silent { settings.now.log ≡ false → output.new ≡ output.old }
 {
     let said = said_of(rt.alloc(), settings, texts)?;
     let speaker = commanded(rt.alloc(), settings, &said, texts)?;
@@ -80,6 +85,7 @@ where
     requires { F.IsAlwaysCallable opens }
     ensures fault { IfErr result (λ fault. ¬ (IsOfWords fault)) }
     ensures wire { IfOk result (λ wire. F.post opens listen log (Ok wire)) }
+    ensures unopened { IfErr result (λ fault. (error : IoError) × (fault ≡ Listen listen error) × F.post opens listen log (Err error)) }
 {
     match opens(listen, log) {
         Ok(wire) => Ok(wire),

@@ -17,7 +17,7 @@ ghost use Rattle.settings_keys.specs.Keys.{IsTableOf};
 ghost use Rattle.speaker_turns.specs.Turns.{Turns};
 ghost use Rattle.program_endings.specs.Words.{IsCall};
 ghost use Rattle.wires.specs.Wires.{nothing_told};
-ghost use Rattle.speaker_program.specs.Files.{AreOctetsAt, AreSettingsOf, IsTextAt};
+ghost use Rattle.speaker_program.specs.Files.{AreOctetsAt, AreSettingsOf};
 
 use crate::checking::answer;
 use crate::fault::SpeakerFault;
@@ -28,6 +28,7 @@ use clocks::{MonotonicClock, SecondsClock};
 use control_lines::Operators;
 use control_sockets::ControlSocket;
 use decision::Book;
+use file_paths::OpensFiles;
 use metrics_sockets::MetricsSocket;
 use net_wires::NetWire;
 use program_endings::{Aside, aside_of, end, read_words};
@@ -42,10 +43,11 @@ use watched_wires::{Watched, WatchedWire};
 use wires::Wire;
 
 /// `ovbgpd SETTINGS [TURNS]`: a speaker that obeys the commands of its settings and then serves its sessions for so many turns.
-/// Behind them its Loc-RIB stands on `output`; a fault has its line on `errors`. `--help`, `--version` and `--check SETTINGS`
-/// are answered on the output, and nothing is served then. The answer is the exit status.
-pub fn main_bgp<B: Book<Global>, R, O: Write, E: Write>(
+/// What `files` opens is read, and nothing else. Behind the turns its Loc-RIB stands on `output`; a fault has its line on `errors`.
+/// `--help`, `--version` and `--check SETTINGS` are answered on the output, and nothing is served then. The answer is the exit status.
+pub fn main_bgp<B: Book<Global>, R, P: OpensFiles, O: Write, E: Write>(
     rt: &R,
+    files: &P,
     words: &[String],
     output: &mut O,
     errors: &mut E,
@@ -62,21 +64,22 @@ where
     // through when they may go: with the exceptions and the commands of files that were opened at their paths, over a wire that was opened where they
     // listen, and that listens there still, at the moments of the instants that the system's clock answered.
     ensures serves { ((aside : Aside) → ¬ (Asks words.now aside)) → result ≡ 0 → (path : List ℕ) × (turns : ℕ) × (settings : SpeakerSettings) × (instants : List ℕ) × (served : Turns)
-        × IsCall words.now path turns × AreSettingsOf (AreOctetsAt path) settings
-        × IsServed IsTextAt (λ wire. wire ≡ nothing_told settings.listen) AttendsSocket settings turns [] (moments_of instants) served × (served.counts.wire.listens ≡ settings.listen) }
+        × IsCall words.now path turns × AreSettingsOf (AreOctetsAt P.opened path) settings
+        × IsServed P.opened (λ wire. wire ≡ nothing_told settings.listen) AttendsSocket settings turns [] (moments_of instants) served × (served.counts.wire.listens ≡ settings.listen) }
     // Where they are to be checked, it is 0 only where a file that was opened at their path tells settings, and the exceptions
     // and the commands of files that were opened at theirs leave a speaker of them with just their slots.
-    ensures checks { (aside : Aside) → Asks words.now aside → result ≡ 0 → IsCheckedBy aside }
+    ensures checks { (aside : Aside) → Asks words.now aside → result ≡ 0 → IsCheckedBy P.opened aside }
 {
     match aside_of(words) {
-        None => main_serving::<B, _, _, _>(rt, words, output, errors),
-        Some(aside) => conclude(answer::<B, _, _>(rt, aside, output), errors),
+        None => main_serving::<B, _, _, _, _>(rt, files, words, output, errors),
+        Some(aside) => conclude(answer::<B, _, _>(rt.alloc(), files, aside, output), errors),
     }
 }
 
 // The same of words that ask for nothing else.
-fn main_serving<B: Book<Global>, R, O: Write, E: Write>(
+fn main_serving<B: Book<Global>, R, P: OpensFiles, O: Write, E: Write>(
     rt: &R,
+    files: &P,
     words: &[String],
     output: &mut O,
     errors: &mut E,
@@ -88,11 +91,11 @@ where
     ensures output { ((path : List ℕ) (turns : ℕ) → ¬ (IsCall words.now path turns)) → output.new ≡ output.old }
     ensures silent { result ≡ 0 → errors.new ≡ errors.old }
     ensures serves { result ≡ 0 → (path : List ℕ) × (turns : ℕ) × (settings : SpeakerSettings) × (instants : List ℕ) × (served : Turns)
-        × IsCall words.now path turns × AreSettingsOf (AreOctetsAt path) settings
-        × IsServed IsTextAt (λ wire. wire ≡ nothing_told settings.listen) AttendsSocket settings turns [] (moments_of instants) served × (served.counts.wire.listens ≡ settings.listen) }
+        × IsCall words.now path turns × AreSettingsOf (AreOctetsAt P.opened path) settings
+        × IsServed P.opened (λ wire. wire ≡ nothing_told settings.listen) AttendsSocket settings turns [] (moments_of instants) served × (served.counts.wire.listens ≡ settings.listen) }
 {
     let mut clock = MonotonicClock::new(rt);
-    let served = serve_words::<B, _, _, _>(rt, words, output, &mut clock);
+    let served = serve_words::<B, _, _, _, _>(rt, files, words, output, &mut clock);
     conclude(ending(served), errors)
 }
 
@@ -108,9 +111,10 @@ fn conclude<E: Write>(ended: Result<(), SpeakerFault>, errors: &mut E) -> u8
     }
 }
 
-// What the words ask for, by the system's files and sockets.
-fn serve_words<'a, B: Book<Global>, R, O: Write, C: SecondsClock>(
+// What the words ask for, by these files and the system's sockets.
+fn serve_words<'a, B: Book<Global>, R, P: OpensFiles, O: Write, C: SecondsClock>(
     rt: &'a R,
+    files: &P,
     words: &[String],
     output: &mut O,
     clock: &mut C,
@@ -120,16 +124,16 @@ where
     ensures wrong { ((path : List ℕ) (turns : ℕ) → ¬ (IsCall words.now path turns)) → IsErrAnd result IsOfWords }
     ensures output { IsErrAnd result IsOfWords → output.new ≡ output.old }
     ensures serves { IfOk result (λ served. (path : List ℕ) × (turns : ℕ) × (settings : SpeakerSettings)
-        × IsCall words.now path turns × AreSettingsOf (AreOctetsAt path) settings
-        × IsServed IsTextAt (λ wire. wire ≡ nothing_told settings.listen) AttendsSocket settings turns (C.readings clock.old) (C.readings clock.new) served × (served.counts.wire.listens ≡ settings.listen)) }
+        × IsCall words.now path turns × AreSettingsOf (AreOctetsAt P.opened path) settings
+        × IsServed P.opened (λ wire. wire ≡ nothing_told settings.listen) AttendsSocket settings turns (C.readings clock.old) (C.readings clock.new) served × (served.counts.wire.listens ≡ settings.listen)) }
 {
     run_bgp(
         rt,
         words,
         output,
         clock,
-        |path: &str| octets_at(rt, path),
-        &|path: &str| lines_of(rt, path),
+        |path: &str| octets_at(rt.alloc(), files, path),
+        &|path: &str| lines_of(rt.alloc(), files, path),
         |listen, log| open_wire(rt, listen, log),
         |path: &str| ControlSocket::open(rt, path),
         |address| MetricsSocket::open(rt, address),

@@ -1,13 +1,12 @@
 //! What is answered besides serving.
-ghost use Rattle.std.specs.Prelude.{ℕ, List, Option, IfOk, OnOk, string_bytes};
-ghost use Rattle.speaker_program.specs.Commanded.{AreSaidOf, IsCommanded};
+ghost use Rattle.std.specs.Prelude.{Ok, OnOk};
+ghost use Rattle.std.specs.Fn.{FnOnceReturnsAt, FnReturnsAt};
+ghost use Rattle.speaker_program.specs.Commanded.{TextAt};
 ghost use Rattle.speaker_program.specs.Checked.{IsChecked, IsCheckedBy};
-ghost use Rattle.speaker_program.specs.Slots.{HasJust};
-ghost use Rattle.speaker_program.specs.ToldConfig.{config_of};
-ghost use Rattle.speaker_program.specs.Files.{AreOctetsAt, AreSettingsOf, IsTextAt};
+ghost use Rattle.speaker_program.specs.Files.{AreOctetsAt, IsGiven};
 
 use crate::commanded_speaker::commanded;
-use crate::exceptions::{nothing_said, said_at};
+use crate::exceptions::said_of;
 use crate::fault::SpeakerFault;
 use crate::files::{lines_of, octets_at};
 use crate::help::{HELP, VERSION};
@@ -15,83 +14,69 @@ use crate::settings_file::read_settings;
 use crate::settled::settled;
 use bgp_conf::Conf;
 use decision::Book;
+use file_paths::OpensFiles;
 use program_endings::{Aside, print};
 use slurm_files::SlurmFile;
-use speaker::Speaker;
-use speaker_exceptions::told;
+use speaker_exceptions::SlurmLine;
 use speaker_settings::SpeakerSettings;
 use speaker_warnings::write_warnings;
-use std::alloc::{AllocGlobal, Global};
-use std::io::{self, Write};
-use std::rt::Files;
+use std::alloc::Global;
+use std::io::{self, BufRead, Write};
 
 /// Answers what is asked besides serving.
-pub(crate) fn answer<B: Book<Global>, R, O: Write>(
-    rt: &R,
+pub(crate) fn answer<B: Book<Global>, P: OpensFiles, O: Write>(
+    alloc: Global,
+    files: &P,
     aside: Aside<'_>,
     output: &mut O,
 ) -> Result<(), SpeakerFault>
-where
-    R: Files + AllocGlobal,
-    ensures { OnOk result (IsCheckedBy aside.entry) }
+    ensures { OnOk result (IsCheckedBy P.opened aside.entry) }
 {
     match aside {
         Aside::Help => print(HELP, output).map_err(SpeakerFault::Output),
         Aside::Version => print(VERSION, output).map_err(SpeakerFault::Output),
-        Aside::Check(path) => check::<B, _, _>(rt, path, output),
+        Aside::Check(path) => check_files::<B, _, _>(alloc, files, path, output),
     }
 }
 
-// Reads the settings of this path, obeys their exceptions and their commands, and tells what they are.
-fn check<B: Book<Global>, R, O: Write>(
-    rt: &R,
+// Checks the settings at this path by these files.
+fn check_files<B: Book<Global>, P: OpensFiles, O: Write>(
+    alloc: Global,
+    files: &P,
     path: &str,
     output: &mut O,
 ) -> Result<(), SpeakerFault>
-where
-    R: Files + AllocGlobal,
-    ensures { OnOk result (IsChecked path.now) }
+    ensures { OnOk result (IsChecked (AreOctetsAt P.opened) P.opened path.now) }
 {
-    let settings = settings_at(rt, path)?;
-    let said = said_there(rt, &settings)?;
-    let speaker = speaker_of::<B, _>(rt, &settings, &said)?;
+    check::<B, _, _, _, _>(
+        alloc,
+        path,
+        output,
+        |path: &str| octets_at(alloc, files, path),
+        &|path: &str| lines_of(alloc, files, path),
+    )
+}
+
+// Reads the settings of this path, obeys their exceptions and their commands, and tells what they are.
+fn check<B: Book<Global>, L: BufRead + Drop, O: Write, S, M>(
+    alloc: Global,
+    path: &str,
+    output: &mut O,
+    reads: S,
+    texts: &M,
+) -> Result<(), SpeakerFault>
+where
+    S: FnOnce(&str) -> io::Result<Vec<u8>>,
+    M: Fn(&str) -> io::Result<L>,
+    requires reads { S.IsAlwaysCallable reads }
+    requires texts { M.IsAlwaysCallable texts.now }
+    ensures { OnOk result (IsChecked (λ path. IsGiven (λ octets. FnOnceReturnsAt S.FnOnce reads path (Ok octets)))
+        (TextAt (λ path lines. FnReturnsAt M.Fn texts.now path (Ok lines)) L.remaining) path.now) }
+{
+    let settings = read_settings(alloc, path, reads)?;
+    let said = said_of(alloc, &settings, texts)?;
+    let speaker = commanded::<B, _, _>(alloc, &settings, &said, texts)?;
     tell_checked(path, &settings, &said, speaker.conf(), output)
-}
-
-/// The settings in the file at this path.
-pub(crate) fn settings_at<R>(rt: &R, path: &str) -> Result<SpeakerSettings, SpeakerFault>
-where
-    R: Files + AllocGlobal,
-    ensures { IfOk result (AreSettingsOf (AreOctetsAt path.now)) }
-{
-    read_settings(rt.alloc(), path, |path: &str| octets_at(rt, path))
-}
-
-// What the SLURM file at the path of the settings says.
-fn said_there<R>(rt: &R, settings: &SpeakerSettings) -> Result<SlurmFile, SpeakerFault>
-where
-    R: Files + AllocGlobal,
-    ensures { IfOk result (AreSaidOf IsTextAt settings.now.slurm) }
-{
-    let Some(path) = &settings.slurm else {
-        return nothing_said(rt.alloc());
-    };
-    said_at(rt.alloc(), path.as_str(), &|path: &str| lines_of(rt, path))
-}
-
-/// The speaker of the settings, which has obeyed these exceptions and then the commands in the file at their path.
-pub(crate) fn speaker_of<B: Book<Global>, R>(
-    rt: &R,
-    settings: &SpeakerSettings,
-    said: &SlurmFile,
-) -> Result<Speaker<Global, B>, SpeakerFault>
-where
-    R: Files + AllocGlobal,
-    ensures slots { IfOk result (HasJust settings.now.peers.items) }
-    ensures commands { IfOk result (λ speaker. (text : Option (List ℕ)) × IsTextAt (string_bytes settings.now.commands) text
-        × IsCommanded said.now.exceptions text (config_of settings.now) speaker) }
-{
-    commanded(rt.alloc(), settings, said, &|path: &str| lines_of(rt, path))
 }
 
 // Tells what settings are, and what of them is hardly meant.
@@ -122,7 +107,7 @@ fn write_said<O: Write>(
 ) -> io::Result<()> {
     match &settings.slurm {
         Some(path) => {
-            let line = told(path.as_str(), said);
+            let line = SlurmLine::of(path.as_str(), said);
             writeln!(output, "{line}")
         }
         None => Ok(()),

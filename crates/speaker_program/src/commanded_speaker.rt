@@ -7,6 +7,7 @@ ghost use Rattle.speaker_program.specs.Endings.{IsOfCommands, IsOfWords, IsUnrea
 ghost use Rattle.runs.specs.SlotTimes.{usual_timers};
 ghost use Rattle.speaker_program.specs.Slots.{HasJust, is_configured};
 ghost use Rattle.speaker_program.specs.ToldConfig.{config_of, with_all_times};
+ghost use Rattle.speaker_program.specs.Unbegun.{IsStopped, IsUncommanded, IsUnmade};
 ghost use Rattle.scenario.specs.FileLines.{lines};
 ghost use Rattle.runs.specs.Agreement.{Agrees};
 
@@ -38,6 +39,7 @@ where
     ensures slots { IfOk result (HasJust settings.now.peers.items) }
     ensures commands { IfOk result (λ speaker. (lines : L) × FnReturnsAt M.Fn texts.now (string_bytes settings.now.commands) (Ok lines)
         × IsCommanded said.now.exceptions (L.remaining lines) (config_of settings.now) speaker) }
+    ensures uncommanded { IfErr result (IsUncommanded (λ path answer. FnReturnsAt M.Fn texts.now path answer) L.remaining settings.now said.now.exceptions) }
 {
     let mut speaker = made(alloc, config_of(settings))?;
     except(alloc, settings, said, &mut speaker)?;
@@ -74,6 +76,7 @@ fn timers_of(told: &[(u8, PeerTimers)]) -> SlotTimers
 fn made<B: Book<Global>>(alloc: Global, config: Config) -> Result<Speaker<Global, B>, SpeakerFault>
     ensures fault { IfErr result (λ fault. ¬ (IsOfWords fault)) }
     ensures agrees { IfOk result (λ speaker. Agrees config [] speaker) }
+    ensures unmade { IfErr result (IsUnmade config) }
 {
     match Speaker::new(alloc, config) {
         Ok(speaker) => Ok(speaker),
@@ -94,6 +97,7 @@ where
     ensures fault { IfErr result (λ fault. ¬ (IsOfWords fault)) }
     ensures slots { OnOk result (HasJust settings.now.peers.items speaker.new) }
     ensures commands { OnOk result ((lines : L) × FnReturnsAt M.Fn texts.now (string_bytes settings.now.commands) (Ok lines) × ObeysText (L.remaining lines) speaker.old speaker.new) }
+    ensures stopped { IfErr result (IsStopped (λ path answer. FnReturnsAt M.Fn texts.now path answer) L.remaining settings.now speaker.old speaker.new) }
 {
     let path = settings.commands.as_str();
     let lines = lines_at(alloc, path, texts)?;

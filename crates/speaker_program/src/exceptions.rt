@@ -1,11 +1,14 @@
 //! The local exceptions of the settings.
-ghost use Rattle.std.specs.Prelude.{◌≡◌, Ok, IfErr, IfOk, OnOk, false};
+ghost use Rattle.std.specs.Prelude.{◌≡◌, Ok, IfErr, IfOk, false};
 ghost use Rattle.std.specs.Fn.{FnReturnsAt};
 ghost use Rattle.file_paths.specs.OpenedFiles.{AreOctetsOf};
 ghost use Rattle.slurm_files.specs.SlurmDocument.{nothing_said};
-ghost use Rattle.speaker_exceptions.specs.ObeyedExceptions.{Obeys, commands_of};
+ghost use Rattle.slurm_files.specs.declared.fault.SlurmFault.{SlurmFault as SpecFault};
+ghost use Rattle.speaker_exceptions.specs.declared.fault.ExceptionsFault.TheVariants.{Slurm};
 ghost use Rattle.speaker_program.specs.Commanded.{AreSaidOf, IsSaidAt, IsSaidIn, TextAt};
-ghost use Rattle.speaker_program.specs.Endings.{IsOfWords};
+ghost use Rattle.speaker_program.specs.Endings.{IsOfExceptions, IsOfWords};
+ghost use Rattle.speaker_program.specs.Unbegun.{IsExceptedBy, IsFaultIn, IsUnopenedAt, IsUnreadAt, IsUnsaid, IsUnsaidAt, slurm_path};
+ghost use Rattle.speaker_program.specs.declared.fault.SpeakerFault.TheVariants.{NoMemory};
 
 use crate::fault::SpeakerFault;
 use decision::Book;
@@ -13,7 +16,7 @@ use file_paths::octets_of;
 use log_lines::log;
 use slurm_files::{SlurmFault, SlurmFile, read_slurm};
 use speaker::Speaker;
-use speaker_exceptions::{ExceptionsFault, obey_exceptions, told};
+use speaker_exceptions::{ExceptionsFault, SlurmLine, obey_exceptions};
 use speaker_settings::SpeakerSettings;
 use std::alloc::Global;
 use std::io::{self, BufRead, Write};
@@ -30,6 +33,7 @@ where
     requires { M.IsAlwaysCallable texts.now }
     ensures fault { IfErr result (λ fault. ¬ (IsOfWords fault)) }
     ensures said { IfOk result (AreSaidOf (TextAt (λ path lines. FnReturnsAt M.Fn texts.now path (Ok lines)) L.remaining) settings.now.slurm) }
+    ensures unsaid { IfErr result (IsUnsaid (λ path answer. FnReturnsAt M.Fn texts.now path answer) L.remaining settings.now.slurm) }
 {
     let Some(path) = &settings.slurm else {
         return nothing_said(alloc);
@@ -37,10 +41,11 @@ where
     said_at(alloc, path.as_str(), texts)
 }
 
-/// That nothing is said.
-pub(crate) fn nothing_said(alloc: Global) -> Result<SlurmFile, SpeakerFault>
+// That nothing is said.
+fn nothing_said(alloc: Global) -> Result<SlurmFile, SpeakerFault>
     ensures fault { IfErr result (λ fault. ¬ (IsOfWords fault)) }
     ensures nothing { IfOk result (λ said. said ≡ nothing_said) }
+    ensures memory { IfErr result (λ fault. fault ≡ NoMemory) }
 {
     match SlurmFile::new(alloc) {
         Ok(said) => Ok(said),
@@ -48,8 +53,8 @@ pub(crate) fn nothing_said(alloc: Global) -> Result<SlurmFile, SpeakerFault>
     }
 }
 
-/// What the SLURM file of this path says.
-pub(crate) fn said_at<L: BufRead + Drop, M>(
+// What the SLURM file of this path says.
+fn said_at<L: BufRead + Drop, M>(
     alloc: Global,
     path: &str,
     texts: &M,
@@ -59,6 +64,7 @@ where
     requires { M.IsAlwaysCallable texts.now }
     ensures fault { IfErr result (λ fault. ¬ (IsOfWords fault)) }
     ensures said { IfOk result (IsSaidAt (TextAt (λ path lines. FnReturnsAt M.Fn texts.now path (Ok lines)) L.remaining) path.now) }
+    ensures unsaid { IfErr result (IsUnsaidAt (λ path answer. FnReturnsAt M.Fn texts.now path answer) L.remaining path.now) }
 {
     let octets = octets_at(alloc, path, texts)?;
     said_in(alloc, path, octets.as_slice())
@@ -75,6 +81,7 @@ where
     requires { M.IsAlwaysCallable texts.now }
     ensures fault { IfErr result (λ fault. ¬ (IsOfWords fault)) }
     ensures octets { IfOk result (λ octets. (lines : L) × FnReturnsAt M.Fn texts.now path.now (Ok lines) × AreOctetsOf (L.remaining lines) octets.items) }
+    ensures unread { IfErr result (IsUnreadAt (λ path answer. FnReturnsAt M.Fn texts.now path answer) path.now) }
 {
     let lines = lines_at(alloc, path, texts)?;
     match octets_of(alloc, lines) {
@@ -94,6 +101,7 @@ where
     requires { M.IsAlwaysCallable texts.now }
     ensures fault { IfErr result (λ fault. ¬ (IsOfWords fault)) }
     ensures given { IfOk result (λ lines. FnReturnsAt M.Fn texts.now path.now (Ok lines)) }
+    ensures unopened { IfErr result (IsUnopenedAt (λ path answer. FnReturnsAt M.Fn texts.now path answer) path.now) }
 {
     match texts(path) {
         Ok(lines) => Ok(lines),
@@ -105,6 +113,7 @@ where
 fn said_in(alloc: Global, path: &str, octets: &[u8]) -> Result<SlurmFile, SpeakerFault>
     ensures fault { IfErr result (λ fault. ¬ (IsOfWords fault)) }
     ensures said { IfOk result (IsSaidIn octets.now) }
+    ensures faulty { IfErr result (λ fault. (why : SpecFault) × IsFaultIn octets.now why × IsOfExceptions path.now (Slurm why) fault) }
 {
     match read_slurm(alloc, octets) {
         Ok(said) => Ok(said),
@@ -113,7 +122,8 @@ fn said_in(alloc: Global, path: &str, octets: &[u8]) -> Result<SlurmFile, Speake
 }
 
 fn bad_file(alloc: Global, path: &str, fault: SlurmFault) -> SpeakerFault
-    ensures { ¬ (IsOfWords result) }
+    ensures exceptions { IsOfExceptions path.now (Slurm fault) result }
+    ensures other { ¬ (IsOfWords result) }
 {
     SpeakerFault::bad_exceptions(alloc, path, ExceptionsFault::Slurm(fault))
 }
@@ -126,7 +136,7 @@ pub(crate) fn except<B: Book<Global>>(
     speaker: &mut Speaker<Global, B>,
 ) -> Result<(), SpeakerFault>
     ensures fault { IfErr result (λ fault. ¬ (IsOfWords fault)) }
-    ensures obeys { OnOk result (Obeys (commands_of said.now.exceptions) speaker.old speaker.new) }
+    ensures obeys { IsExceptedBy (slurm_path settings.now.slurm) said.now.exceptions result speaker.old speaker.new }
 {
     match obey_exceptions(&said.exceptions, speaker) {
         Ok(()) => Ok(()),
@@ -139,7 +149,9 @@ pub(crate) fn except<B: Book<Global>>(
 }
 
 // The path of the SLURM file, or an empty one where there is none.
-fn slurm_path(settings: &SpeakerSettings) -> &str {
+fn slurm_path(settings: &SpeakerSettings) -> &str
+    ensures { result.now ≡ slurm_path settings.now.slurm }
+{
     match &settings.slurm {
         Some(path) => path.as_str(),
         None => "",
@@ -156,6 +168,11 @@ pub(crate) fn tell_said<R: Clock, O: Write>(
     ensures { settings.now.log ≡ false → output.new ≡ output.old }
 {
     if let Some(path) = &settings.slurm {
-        log(rt, settings.log, output, &told(path.as_str(), said));
+        log(
+            rt,
+            settings.log,
+            output,
+            &SlurmLine::of(path.as_str(), said),
+        );
     }
 }

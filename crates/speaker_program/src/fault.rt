@@ -1,6 +1,6 @@
 //! What ends the program of a speaker.
 ghost use Rattle.std.specs.Prelude.{◌≡◌};
-ghost use Rattle.speaker_program.specs.Endings.{IsOfCommands, IsOfWords};
+ghost use Rattle.speaker_program.specs.Endings.{IsOfCommands, IsOfExceptions, IsOfFile, IsOfSlot, IsOfWords};
 ghost use Rattle.speaker_program.specs.Exits.{exit_of_fault};
 ghost use Rattle.speaker_program.specs.declared.fault.SpeakerFault.TheVariants.{NoMemory, Turn};
 
@@ -116,7 +116,8 @@ impl SpeakerFault {
 
     /// A file that can't be read.
     pub(crate) fn unread(alloc: Global, path: &str, error: io::Error) -> SpeakerFault
-        ensures { ¬ (IsOfWords result) }
+        ensures file { IsOfFile path.now error result }
+        ensures other { ¬ (IsOfWords result) }
     {
         let path = FilePath::of(alloc, path);
         SpeakerFault::File { path, error }
@@ -140,7 +141,8 @@ impl SpeakerFault {
 
     /// Exceptions that can't be obeyed.
     pub(crate) fn bad_exceptions(alloc: Global, path: &str, why: ExceptionsFault) -> SpeakerFault
-        ensures { ¬ (IsOfWords result) }
+        ensures exceptions { IsOfExceptions path.now why result }
+        ensures other { ¬ (IsOfWords result) }
     {
         let path = FilePath::of(alloc, path);
         SpeakerFault::Exceptions { path, why }
@@ -148,7 +150,8 @@ impl SpeakerFault {
 
     /// A slot with a peer and no table, or a table and no peer.
     pub(crate) fn bad_slot(alloc: Global, path: &str, slot: u8) -> SpeakerFault
-        ensures { ¬ (IsOfWords result) }
+        ensures slot { IsOfSlot path.now slot result }
+        ensures other { ¬ (IsOfWords result) }
     {
         let path = FilePath::of(alloc, path);
         SpeakerFault::Slot { path, slot }

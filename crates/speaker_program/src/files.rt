@@ -1,28 +1,28 @@
-//! The files of a speaker's settings, as the system opens them.
+//! The files of a speaker's settings, as they are opened.
 ghost use Rattle.std.specs.Prelude.{IfOk};
 ghost use Rattle.std.specs.Io.Buffered.{reader_remaining};
-ghost use Rattle.speaker_program.specs.Files.{AreOctetsAt, IsTextAt};
+ghost use Rattle.speaker_program.specs.Files.{AreOctetsAt};
 
-use file_paths::{FileAt, octets_of, open_at};
-use std::alloc::AllocGlobal;
+use file_paths::{OpensFiles, octets_of};
+use std::alloc::Global;
 use std::io::{self, BufReader};
-use std::rt::Files;
 
 /// The octets of the file at this path.
-pub(crate) fn octets_at<R: Files + AllocGlobal>(rt: &R, path: &str) -> io::Result<Vec<u8>>
-    ensures { IfOk result (λ octets. AreOctetsAt path.now octets.items) }
+pub(crate) fn octets_at<P: OpensFiles>(alloc: Global, files: &P, path: &str) -> io::Result<Vec<u8>>
+    ensures { IfOk result (λ octets. AreOctetsAt P.opened path.now octets.items) }
 {
-    let file = open_at(rt, path)?;
-    octets_of(rt.alloc(), file)
+    let file = files.open(path)?;
+    octets_of(alloc, file)
 }
 
 /// The lines of the file at this path.
-pub(crate) fn lines_of<R: Files + AllocGlobal>(
-    rt: &R,
+pub(crate) fn lines_of<P: OpensFiles>(
+    alloc: Global,
+    files: &P,
     path: &str,
-) -> io::Result<BufReader<FileAt<R::File>>>
-    ensures { IfOk result (λ lines. IsTextAt path.now (reader_remaining (λ file. file.text) lines)) }
+) -> io::Result<BufReader<P::File>>
+    ensures { IfOk result (λ lines. P.opened path.now (reader_remaining P.File.remaining lines)) }
 {
-    let file = open_at(rt, path)?;
-    BufReader::new(rt.alloc(), file)
+    let file = files.open(path)?;
+    BufReader::new(alloc, file)
 }

@@ -1,5 +1,6 @@
 //! Each text of `ovbgpd` with its exit status.
 
+use file_paths::SystemFiles;
 use live_book::LiveBook;
 use program_stages::{Ending, Stage, deaf_listener, ends, remove, write, write_settings};
 use speaker_program::main_bgp;
@@ -38,8 +39,9 @@ pub(crate) fn ends_with<R>(rt: &R, words: &[&str], ending: Ending<'_>) -> bool
 where
     R: Net<Listener = TcpListener, Stream = TcpStream> + Files + Clock + AllocGlobal,
 {
+    let files = SystemFiles::new(rt);
     ends(rt.alloc(), words, ending, |words, output, errors| {
-        main_bgp::<LiveBook, _, _, _>(rt, words, output, errors)
+        main_bgp::<LiveBook, _, _, _, _>(rt, &files, words, output, errors)
     }) == Ok(true)
 }
 
@@ -545,7 +547,8 @@ fn a_turn_that_cant_accept_is_a_device(rt: HostRuntime) -> Result<(), Fail> {
 fn status_with_room(rt: &HostRuntime, words: &[String], room: &mut [u8]) -> u8 {
     let mut output = room;
     let mut errors = Vec::new(rt.alloc());
-    main_bgp::<LiveBook, _, _, _>(rt, words, &mut output, &mut errors)
+    let files = SystemFiles::new(rt);
+    main_bgp::<LiveBook, _, _, _, _>(rt, &files, words, &mut output, &mut errors)
 }
 
 // Whether the output of a turn fits into four octets, and fails where only three do.

@@ -1,5 +1,6 @@
 //! What `ovbgpd` warns of before its first turn.
 
+use file_paths::SystemFiles;
 use live_book::LiveBook;
 use program_stages::{remove, write, write_settings};
 use speaker_program::main_bgp;
@@ -35,7 +36,8 @@ fn output_of(rt: &HostRuntime, path: &str) -> io::Result<Vec<u8>> {
     ];
     let mut output = Vec::new(rt.alloc());
     let mut errors = Vec::new(rt.alloc());
-    let status = main_bgp::<LiveBook, _, _, _>(rt, &words, &mut output, &mut errors);
+    let files = SystemFiles::new(rt);
+    let status = main_bgp::<LiveBook, _, _, _, _>(rt, &files, &words, &mut output, &mut errors);
     if status != 0 {
         output.clear();
     }

@@ -1,8 +1,9 @@
-use Rattle.std.proofs.Common.{◌∙◌, ap, refl}
+use Rattle.std.proofs.Common.{◌∙◌, ap, inl, inr, refl}
 use Rattle.speaker_turns.specs.Turns.{Turns, with_patience}
 use Rattle.speaker_turns.specs.declared.patience.Patience.{Patience}
 use Rattle.speaker_program.specs.Begun.{patience_of, with_remotes}
 use Rattle.speaker_program.proofs.OtherFaults.{other_fault}
+use Rattle.speaker_program.proofs.ServedWords.{if_err_as}
 use Rattle.speaker_program.proofs.beginning.begin.Goals as goal
 
 pub returns-in_err-wire-clause-fault : goal.returns-in_err-wire-clause-fault
@@ -33,3 +34,19 @@ returns-in_err-said-clause-fault g c = other_fault c.from_residual.result c.in_e
 
 pub returns-in_err-speaker-clause-fault : goal.returns-in_err-speaker-clause-fault
 returns-in_err-speaker-clause-fault g c = other_fault c.from_residual-in_err-speaker.result c.in_err-speaker.field-0.0 c.from_residual-in_err-speaker.ensures.1 c.in_err-speaker.ensures.fault
+
+pub returns-in_err-said-clause-unbegun : goal.returns-in_err-said-clause-unbegun
+returns-in_err-said-clause-unbegun g c = if_err_as _ c.from_residual.result c.in_err-said.field-0.0 c.from_residual.ensures.1 (inl c.in_err-said.ensures.unsaid)
+
+pub returns-in_err-speaker-clause-unbegun : goal.returns-in_err-speaker-clause-unbegun
+returns-in_err-speaker-clause-unbegun g c =
+    if_err_as _ c.from_residual-in_err-speaker.result c.in_err-speaker.field-0.0 c.from_residual-in_err-speaker.ensures.1
+    (inr (inl (c.in_ok-said.said, c.in_ok-said.ensures.said, c.in_err-speaker.ensures.uncommanded)))
+
+pub returns-in_err-wire-clause-unbegun : goal.returns-in_err-wire-clause-unbegun
+returns-in_err-wire-clause-unbegun g c =
+    if_err_as _ c.from_residual-in_err-wire.result c.in_err-wire.field-0.0 c.from_residual-in_err-wire.ensures.1
+    (inr (inr (inl (rw c.is_watched.ensures at c.in_err-wire.ensures.unopened))))
+
+pub returns-in_err-served-clause-unbegun : goal.returns-in_err-served-clause-unbegun
+returns-in_err-served-clause-unbegun g c = if_err_as _ c.from_residual-in_err-served.result _ c.from_residual-in_err-served.ensures.1 (inr (inr (inr refl)))

@@ -16,4 +16,4 @@ returns-in-Some-clause-serves g c = λ asked zero. absurd (asked c.in-Some.aside
 
 pub returns-in-Some-clause-checks : goal.returns-in-Some-clause-checks
 returns-in-Some-clause-checks g c = λ aside asks zero.
-    one_aside c.args.words.now c.in-Some.aside aside c.in-Some.ensures asks (zero_is_well c.answer.result (sym c.conclude.ensures.status ∙ zero) c.answer.ensures)
+    one_aside g.P.OpensFiles.opened c.args.words.now c.in-Some.aside aside c.in-Some.ensures asks (zero_is_well c.answer.result (sym c.conclude.ensures.status ∙ zero) c.answer.ensures)
