@@ -5,6 +5,7 @@ pub mod Clearing
 pub mod Counting
 pub mod Due
 pub mod Exported
+pub mod Feasible
 pub mod HeardOffers
 pub mod KeptOffers
 pub mod Marking
@@ -18,6 +19,7 @@ pub mod Results
 pub mod RouteChanges
 pub mod SoundOffers
 pub mod Stretching
+pub mod Taken
 pub mod ToldPrefixes
 pub mod TouchedStretches
 pub mod WaitingLists

@@ -58,3 +58,8 @@ told_true r b told is = sym is ∙ told
 
 pub told_false : (r b : Bool) → r ≡ false → r ≡ b → b ≡ false
 told_false r b told is = sym is ∙ told
+
+-- a count that rises at most so far, or stays
+pub most_where : {T F : Type 0} (r : Result T F) (a b n : ℕ) → OnOk r (b ≤ a + n) → OnErr r (b ≡ a) → b ≤ a + n
+most_where (Ok v) a b n most stays = most
+most_where (Err e) a b n most stays = omega (arith, stays)

@@ -24,6 +24,7 @@ use Rattle.policy.specs.declared.rule.Action.{Action}
 use Rattle.policy.specs.declared.rule.Action.TheVariants.{Reject, Accept}
 use Rattle.policy.specs.PolicyMeaning.{Route}
 use Rattle.routing.specs.Tables.{Tables}
+use Rattle.routing.specs.declared.candidates.Mandatory.{Mandatory}
 
 -- the origin of a route with these attributes, for a speaker of this AS (RFC 6811 section 2)
 abbrev pub origin_in : Asn → PathAttributes → Option Asn
@@ -59,6 +60,20 @@ pub record IsCandidateOf (conf : Configuration) (identifier : ℕ) (attrs : Path
   pub external_is : c.external ≡ is_external (kind_between conf.own peer.asn)
   pub identifier_is : c.identifier ≡ identifier
   pub address_is : c.address ≡ peer.address
+
+-- of a route with these attributes the selection reads this, for a session with this address of its own: the next hop resolves and isn't that
+-- address, and the path doesn't hold the own AS
+pub record IsFeasible (conf : Configuration) (local : ℕ) (attrs : PathAttributes) (m : Mandatory) : Type 0 where
+  pub path : List PathSegment
+  pub next_hop : ℕ
+  pub origin_is : attrs.origin ≡ Some m.origin
+  pub path_is : attrs.as_path ≡ Some path
+  pub next_hop_is : attrs.next_hop ≡ Some next_hop
+  pub without_own_as : has_as path conf.own ≡ false
+  pub not_own_address : next_hop ≢ local
+  pub resolves : IsCost conf.reach next_hop (Some m.cost)
+  pub length_is : m.path_length ≡ path_length_of path
+  pub neighbor_is : m.neighbor ≡ neighbor_as_of path conf.own
 
 -- a local network as a candidate, whatever its state: its degree of preference is greater than that of any peer's route (own
 -- choice), so that no step of the selection compares the rest

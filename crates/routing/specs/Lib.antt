@@ -13,6 +13,7 @@ pub mod Places
 pub mod RoutesState
 pub mod RoutingState
 pub mod Tables
+pub mod Taken
 pub mod Told
 pub mod Updates
 pub mod Waiting

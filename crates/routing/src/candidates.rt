@@ -5,7 +5,8 @@ ghost use Rattle.decision.specs.BookContents.{offer_at};
 ghost use Rattle.routing.specs.Tables.{payloads_under, tables};
 ghost use Rattle.net_prefix.specs.declared.prefix.Prefix.{Prefix as ThePrefix};
 ghost use Rattle.rib_in.specs.LatestRoutes.{HasRoute, route_at};
-ghost use Rattle.routing.specs.Candidates.{IsMade, degree_by, degree_of, judged_at, local_candidate, network_at, origin_in, taken};
+ghost use Rattle.routing.specs.Candidates.{IsFeasible, IsMade, degree_by, degree_of, judged_at, local_candidate, network_at, origin_in, taken};
+ghost use Rattle.routing.specs.declared.candidates.Mandatory.{Mandatory as TheMandatory};
 ghost use Rattle.local_exceptions.specs.ExceptionSets.{behind, is_turned};
 ghost use Rattle.origin_valid.specs.Stretches.{changed_prefixes, prefixes_of, stretches};
 ghost use Rattle.prefix_trie.specs.CoverWalks.{covers};
@@ -33,6 +34,16 @@ const DEFAULT_DEGREE: u64 = 100;
 /// The degree of preference of a local network: greater than that of any peer's route.
 const LOCAL_DEGREE: u64 = 1 << 32;
 
+// What the selection reads of the mandatory attributes of a route: the ORIGIN, the path's length and neighbor AS, and the
+// interior cost of the next hop.
+#[derive(Clone, Copy)]
+struct Mandatory {
+    origin: Origin,
+    path_length: u32,
+    neighbor: Asn,
+    cost: u32,
+}
+
 // Changes of one prefix's candidates.
 type Changes = ArrayVec<Change, MAX_CANDIDATES>;
 
@@ -47,27 +58,45 @@ pub fn candidate<A: Allocator + Clone>(
     ensures { IsMade conf.now slot identifier attrs.now result }
 {
     let peer = conf.peer(slot)?;
-    let origin = attrs.origin()?;
-    let as_path = attrs.as_path()?;
-    let next_hop = attrs.next_hop()?;
-    if next_hop == peer.local || as_path.contains(conf.own()) {
-        return None;
-    }
-    let cost = conf.cost(next_hop)?;
     let kind = PeerKind::between(conf.own(), peer.asn);
+    let degree = degree(kind, attrs)?;
+    let mandatory = read_mandatory(conf, peer.local, attrs)?;
     Some(Candidate {
         slot,
-        degree: degree(kind, attrs)?,
-        path_length: as_path.length(),
-        origin,
-        neighbor: neighbor_as(as_path, conf.own()),
+        degree,
+        path_length: mandatory.path_length,
+        origin: mandatory.origin,
+        neighbor: mandatory.neighbor,
         med: attrs.multi_exit_disc(),
         external: kind.is_external(),
-        cost,
+        cost: mandatory.cost,
         identifier,
         address: peer.address,
         // What it is in the payloads in force goes by the prefix.
         validity: Validity::NotFound,
+    })
+}
+
+// What the selection reads of the mandatory attributes of a route (RFC 4271 section 5), where its next hop resolves and is
+// not this address of the session's own, and its path does not hold the own AS.
+fn read_mandatory<A: Allocator + Clone>(
+    conf: &Conf<A>,
+    local: u32,
+    attrs: &Attrs<A>,
+) -> Option<Mandatory>
+    ensures { MatchOption result ((m : TheMandatory) → IsFeasible conf.now local attrs.now m → ⊥) (IsFeasible conf.now local attrs.now) }
+{
+    let origin = attrs.origin()?;
+    let as_path = attrs.as_path()?;
+    let next_hop = attrs.next_hop()?;
+    if next_hop == local || as_path.contains(conf.own()) {
+        return None;
+    }
+    Some(Mandatory {
+        origin,
+        path_length: as_path.length(),
+        neighbor: neighbor_as(as_path, conf.own()),
+        cost: conf.cost(next_hop)?,
     })
 }
 

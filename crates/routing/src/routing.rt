@@ -61,6 +61,13 @@ impl<A: Allocator + Clone, B: Book<A>> Routing<A, B> {
         ensures { IfOk result (λ t. t ≡ started t.alike) }
     {
         let waiting = Waiting::new(alloc.clone()?);
+        Self::with_waiting(alloc, waiting)
+    }
+
+    // No routes, with this of what waits.
+    fn with_waiting(alloc: A, waiting: Waiting<A>) -> Result<Self, AllocError>
+        ensures { IfOk result (λ t. t ≡ record (started t.alike) { waiting = waiting }) }
+    {
         let alike = AlikePrefixes::new(alloc.clone()?);
         let ribs = Ribs::new(alloc)?;
         Ok(Routing {

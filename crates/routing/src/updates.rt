@@ -1,5 +1,5 @@
 //! The routes that an UPDATE brings and withdraws (RFC 4271 section 4.3).
-ghost use Rattle.std.specs.Prelude.{◌≡◌, ◌≢◌, ◌≤◌, ◌+◌, ◌==◌, ◌&&◌, ◌++◌, ◌∷◌, ℕ, List, [], true, Some, None, OnOk, OnErr, IfSome, if◌then◌else◌};
+ghost use Rattle.std.specs.Prelude.{◌≡◌, ◌≢◌, ◌≤◌, ◌+◌, ◌==◌, ◌&&◌, ◌++◌, ◌∷◌, ℕ, List, [], true, Some, None, IfOk, OnOk, OnErr, IfSome, if◌then◌else◌};
 ghost use Rattle.bgp_fsm.specs.declared.state.State.TheVariants.{Established};
 ghost use Rattle.bgp_msg.specs.MessageSpelling.{front_prefixes};
 ghost use Rattle.decision.specs.BookContents.{AreApart, offer_at};
@@ -14,6 +14,7 @@ ghost use Rattle.routing.specs.Marks.{AreMarked};
 ghost use Rattle.routing.specs.RoutingState.{RoutingState, StayWhole};
 ghost use Rattle.routing.specs.Tables.{payloads_under};
 ghost use Rattle.routing.specs.Offers.{IsSound, KeepsHeard};
+ghost use Rattle.routing.specs.Taken.{IsTaken};
 
 use crate::candidates::{candidate, judge_route};
 use crate::routing::{Links, Routing};
@@ -82,28 +83,50 @@ pub fn take_update<A: Allocator + Clone, B: Book<A>>(
         withdraw_each(conf, links, routing, sender.slot, withdrawn, announced);
         return Ok(());
     }
-    let attrs = Rc::new(alloc.clone()?, update.into_attrs())?;
-    let mut named = Vec::new(alloc.clone()?);
-    bring_all(
-        conf,
-        links,
-        routing,
-        sender.slot,
-        announced,
-        &attrs,
-        &mut named,
-    )?;
-    withdraw_each(conf, links, routing, sender.slot, withdrawn, announced);
-    let candidate = candidate(conf, sender.slot, sender.identifier, &attrs);
+    let attrs = update.into_attrs();
+    replace_routes(
+        alloc, conf, payloads, links, routing, sender, withdrawn, announced, attrs,
+    )
+}
+
+// The attributes of an UPDATE, for all routes that it announces.
+fn share_attrs<A: Allocator + Clone>(
+    alloc: &A,
+    attrs: Attrs<A>,
+) -> Result<Rc<Attrs<A>, A>, AllocError>
+    ensures { IfOk result (λ shared. shared.value ≡ attrs) }
+{
+    Ok(Rc::new(alloc.clone()?, attrs)?)
+}
+
+// Takes the routes of an UPDATE that announces some: these attributes are those of each. Where memory is refused, nothing
+// is taken.
+fn replace_routes<A: Allocator + Clone, B: Book<A>>(
+    alloc: &A,
+    conf: &Conf<A>,
+    payloads: &PayloadTrie<A>,
+    links: &Links<A>,
+    routing: &mut Routing<A, B>,
+    sender: Sender,
+    withdrawn: Prefixes<'_>,
+    announced: Prefixes<'_>,
+    attrs: Attrs<A>,
+) -> Result<(), AllocError>
+    requires sound { IsSound conf.now (offer_at routing.old.book) }
+    requires marked { AreMarked conf.now links.now.entries routing.old }
+    ensures sound { IsSound conf.now (offer_at routing.new.book) }
+    ensures marked { AreMarked conf.now links.now.entries routing.new }
+    ensures taken { OnOk result (IsTaken conf.now (payloads_under conf.now payloads.now) sender (record { withdrawn = (front_prefixes withdrawn.entry.octets.now).0; attrs = attrs; announced = (front_prefixes announced.entry.octets.now).0 }) routing.old routing.new) }
+    ensures refused { OnErr result (StayWhole routing.old.adj_in routing.new.adj_in routing.old.book routing.new.book routing.old.chosen routing.new.chosen) }
+    ensures rises { routing.old.chosen ≤ routing.new.chosen }
+{
+    let Sender { slot, identifier } = sender;
+    let shared = share_attrs(alloc, attrs)?;
+    let named = bring_all(alloc, conf, links, routing, slot, announced, &shared)?;
+    withdraw_each(conf, links, routing, slot, withdrawn, announced);
+    let candidate = candidate(conf, slot, identifier, &shared);
     announce_each(
-        conf,
-        payloads,
-        links,
-        routing,
-        sender.slot,
-        named,
-        &attrs,
-        candidate,
+        conf, payloads, links, routing, slot, named, &shared, candidate,
     );
     Ok(())
 }
@@ -146,28 +169,28 @@ fn is_named(prefixes: Prefixes<'_>, prefix: Prefix) -> bool
 // Gives the slot a route with these attributes to each prefix to which it has none, and lists all of them. Where memory is
 // refused, those routes go again.
 fn bring_all<A: Allocator + Clone, B: Book<A>>(
+    alloc: &A,
     conf: &Conf<A>,
     links: &Links<A>,
     routing: &mut Routing<A, B>,
     slot: u8,
     prefixes: Prefixes<'_>,
     attrs: &Rc<Attrs<A>, A>,
-    named: &mut Vec<Announced<A>, A>,
-) -> Result<(), AllocError>
-    requires empty { named.old.items ≡ [] }
-    requires marked { AreMarked conf.now links.now.entries routing.old }
+) -> Result<Vec<Announced<A>, A>, AllocError>
+    requires { AreMarked conf.now links.now.entries routing.old }
     ensures marked { AreMarked conf.now links.now.entries routing.new }
-    ensures brought { OnOk result (IsBrought slot attrs.now.value (front_prefixes prefixes.entry.octets.now).0 named.new.items routing.old routing.new) }
+    ensures brought { IfOk result (λ named. IsBrought slot attrs.now.value (front_prefixes prefixes.entry.octets.now).0 named.items routing.old routing.new) }
     ensures refused { OnErr result (StayWhole routing.old.adj_in routing.new.adj_in routing.old.book routing.new.book routing.old.chosen routing.new.chosen) }
 {
-    let brought = bring_each(conf, links, routing, slot, prefixes, attrs, named);
-    if brought.is_err() {
+    let mut named = Vec::new(alloc.clone()?);
+    if let Err(refused) = bring_each(conf, links, routing, slot, prefixes, attrs, &mut named) {
         take_back(conf, links, routing, slot, named.as_slice());
+        return Err(refused);
     }
-    brought
+    Ok(named)
 }
 
-// The same, where nothing is taken back.
+// The same into a list, where nothing is taken back.
 fn bring_each<A: Allocator + Clone, B: Book<A>>(
     conf: &Conf<A>,
     links: &Links<A>,
