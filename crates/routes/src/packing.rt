@@ -1,5 +1,5 @@
 //! Which prefixes one UPDATE names (RFC 4271 section 4.3).
-ghost use Rattle.std.specs.Prelude.{◌≡◌, ◌≢◌, ◌≤◌, ◌<◌, ◌-◌, ◌^◌, ℕ, List, All, true, None, Some, IfSome, length};
+ghost use Rattle.std.specs.Prelude.{◌≡◌, ◌≢◌, ◌≤◌, ◌<◌, ◌-◌, ◌^◌, ℕ, List, [], All, true, None, Some, IfSome, length};
 ghost use Rattle.std.specs.Bool.{OnFalse, OnTrue};
 ghost use Rattle.std.specs.Option.{IsSome, option_map};
 ghost use Rattle.bgp_conf.specs.Configuration.{peer_at};
@@ -43,7 +43,11 @@ pub struct Draft {
 
 impl Draft {
     /// An UPDATE of which nothing is written yet.
-    pub fn new() -> Self {
+    pub fn new() -> Self
+        ensures named { result.named.items ≡ [] }
+        ensures message { result.message.items ≡ [] }
+        ensures other { result.other.items ≡ [] }
+    {
         Draft {
             named: Prefixes::new(),
             message: Octets::new(),

@@ -20,6 +20,7 @@ ghost use Rattle.routing.specs.Export.{IsAccepted, export_in, export_peer_of};
 ghost use Rattle.routes.specs.Lending.{lends_payloads};
 ghost use Rattle.routing.specs.Offers.{AreMadeWhere, is_within};
 ghost use Rattle.routing.specs.RoutesState.{begun, tables_in};
+ghost use Rattle.routing.specs.RoutingState.{started};
 ghost use Rattle.routing.specs.Tables.{best_at, link_at};
 ghost use Rattle.routing.specs.Waiting.{waiting_at};
 
@@ -81,15 +82,32 @@ impl<A: Allocator + Clone + Copy, B: Book<A>> Routes<A, B> {
     {
         let recent = RecentOctets::new(alloc)?;
         let conf = Conf::new(alloc, own)?;
+        Self::begin(alloc, conf, recent)
+    }
+
+    // The same for this configuration, in which nothing is configured.
+    fn begin(alloc: A, conf: Conf<A>, recent: RecentOctets<A>) -> Result<Self, AllocError>
+        requires { conf ≡ (begun conf.own).conf }
+        ensures { IfOk result (λ r. r ≡ begun conf.own) }
+    {
         let routing = Routing::new(alloc)?;
-        Ok(Routes {
+        Ok(Self::empty(alloc, conf, routing, recent))
+    }
+
+    // These parts, in which there is nothing, as one value.
+    fn empty(alloc: A, conf: Conf<A>, routing: Routing<A, B>, recent: RecentOctets<A>) -> Self
+        requires conf { conf ≡ (begun conf.own).conf }
+        requires routing { routing ≡ started routing.alike }
+        ensures { result ≡ begun conf.own }
+    {
+        Routes {
             conf,
             payloads: PayloadTrie::new(alloc),
             links: BTreeMap::new(alloc),
             routing,
             recent,
             undo: UndoLog::new(alloc),
-        })
+        }
     }
 }
 
