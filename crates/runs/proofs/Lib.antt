@@ -12,3 +12,4 @@ pub mod OtherSessions
 pub mod Moments
 pub mod Touches
 pub mod RefusedEvents
+pub mod AcceptedCommands

@@ -1,5 +1,6 @@
 -- A speaker behind an event that it refused.
-use Rattle.std.proofs.Common.{◌≡◌, ◌∙◌, Option, None, Some, MatchOption, Result, Err, sym, ap, subst}
+use Rattle.std.proofs.Common.{◌≡◌, ◌∙◌, Option, None, Some, MatchOption, Result, Ok, Err, refl, sym, ap, subst}
+use Rattle.std.specs.Prelude.{⊤}
 use Rattle.std.specs.Option.{option_map}
 use Rattle.bgp_attr.specs.PathAttributes.{PathAttributes}
 use Rattle.bgp_conf.specs.Configuration.{peer_at}
@@ -57,3 +58,11 @@ pub takes_nothing : (first : Option Refusal) (event : Event) (why : Refusal) (ol
     → MatchOption first ((why ≡ Memory) × LacksMemory event old new) (λ w. (err_of why ≡ err_of w) × (new ≡ old)) → (config : Config) (r : Run) → Agrees config r old → Agrees config r new
 takes_nothing None event why old new lacks config r agrees = agrees_as_before config r old new lacks.1.1 agrees
 takes_nothing (Some w) event why old new same config r agrees = rw same.1 agrees
+
+abbrev pub ok_of : Report → Result Report Refusal
+ok_of report = Ok report
+
+-- an event that is accepted isn't refused
+pub unrefused : (first : Option Refusal) (report : Report) (old new : SpeakerState) → MatchOption first ⊤ (λ w. (ok_of report ≡ err_of w) × (new ≡ old)) → first ≡ None
+unrefused None report old new accepted = refl
+unrefused (Some w) report old new refused = absurd (let is = refused.0 in cc)

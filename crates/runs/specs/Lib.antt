@@ -7,6 +7,7 @@ pub mod SlotTimes
 pub mod Runs
 pub mod Agreement
 pub mod FirstRefusal
+pub mod AcceptedCommands
 pub mod Played
 pub mod Waiting
 pub mod Choices

@@ -32,7 +32,7 @@ use Rattle.runs.specs.declared.config.Config.{Config}
 use Rattle.speaker.proofs.AllowedChoices.{most_touched}
 use Rattle.runs.proofs.Coming.{HasCome, Joins}
 use Rattle.routing.proofs.Counting.{different_as}
-use Rattle.speaker.proofs.Events.{IsReady}
+use Rattle.speaker.specs.Ready.{IsReady}
 use Rattle.speaker.proofs.KeptOffers.{kept_touched}
 use Rattle.runs.proofs.KnownPrefixes.{IsKnown, known_of}
 use Rattle.routing.specs.Tables.{network_route, payloads_under}

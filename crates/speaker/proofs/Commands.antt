@@ -34,6 +34,7 @@ use Rattle.bgp_peer.specs.SessionInputs as happens
 use Rattle.bgp_peer.specs.SessionInputs.{Signalled, Terms, moment_of, session, staying}
 use Rattle.bgp_peer.specs.Slot.{configured}
 use Rattle.bgp_peer.proofs.Agreeing.{agrees-new}
+use Rattle.net_prefix.specs.declared.asn.Asn.{Asn}
 use Rattle.net_prefix.specs.declared.prefix.Prefix.{Prefix}
 use Rattle.net_prefix.specs.declared.transport.Transport.{Transport}
 use Rattle.net_prefix.specs.declared.transport.Transport.TheVariants.{Open as Connected}
@@ -50,6 +51,7 @@ use Rattle.runs.specs.FirstRefusal.{refused_at, awaits_up, is_open}
 use Rattle.routing.specs.Linked.{Linked, moved}
 use Rattle.routing.specs.Offers.{AreKept, AreMadeAgain, AreMadeWhere}
 use Rattle.routes.specs.Commands.{resolves}
+use Rattle.speaker.specs.Ready.{is_free, is_other}
 use Rattle.speaker.specs.Moves.{Announces, Moves, IsPut}
 use Rattle.runs.specs.Runs.{Call, Run, turn, Up_call, Fail_call, Bytes_call, Starved_call, Tick_call, Command_call, Take_call, Cache_up_call, Cache_fail_call, Cache_bytes_call, Cache_starved_call, Cache_take_call, cache_history, commanded, conf_called, configuration_of, history, moment_after, opened_commanded, terms_in}
 use Rattle.runs.specs.SlotTimes.{times_at}
@@ -651,3 +653,73 @@ added config slot peer = record { peer = configured (record { asn = config.asn; 
 
 pub added_same : (have config : Config) (slot : ℕ) (peer : PeerConf) → have ≡ config → added have slot peer ≡ added config slot peer
 added_same have config slot peer is = rw is refl
+
+-- a command of no other kind takes no memory
+pub other_left : (command : Command) → ((slot : ℕ) (peer : PeerConf) → command ≢ AddPeer slot peer)
+    → ((name : Bor (List ℕ)) (rules : Bor (List Rule)) → command ≢ SetPolicy name rules)
+    → ((prefix : Prefix) → command ≢ Network prefix)
+    → ((prefix : Prefix) (cost : ℕ) → command ≢ Reach prefix cost)
+    → ((prefix : Prefix) → command ≢ NoReach prefix) → is_other command ≡ true
+other_left (AddPeer slot peer) add set network reach unreach = absurd (add slot peer refl)
+other_left (RemovePeer slot) add set network reach unreach = refl
+other_left (Enable slot) add set network reach unreach = refl
+other_left (Disable slot) add set network reach unreach = refl
+other_left (SetPolicy name rules) add set network reach unreach = absurd (set name rules refl)
+other_left (DropPolicy name) add set network reach unreach = refl
+other_left (UseIn slot name) add set network reach unreach = refl
+other_left (UseOut slot name) add set network reach unreach = refl
+other_left (Network prefix) add set network reach unreach = absurd (network prefix refl)
+other_left (NoNetwork prefix) add set network reach unreach = refl
+other_left (Reach prefix cost) add set network reach unreach = absurd (reach prefix cost refl)
+other_left (NoReach prefix) add set network reach unreach = absurd (unreach prefix refl)
+other_left (Filter prefix asn) add set network reach unreach = refl
+other_left (NoFilter prefix asn) add set network reach unreach = refl
+other_left (Assert prefix max_len asn) add set network reach unreach = refl
+other_left (NoAssert prefix max_len asn) add set network reach unreach = refl
+
+pub free_left : (command : Command) → is_other command ≡ true
+    → ((prefix : Option Prefix) (asn : Option Asn) → command ≢ Filter prefix asn)
+    → ((prefix : Option Prefix) (asn : Option Asn) → command ≢ NoFilter prefix asn)
+    → ((prefix : Prefix) (max_len : ℕ) (asn : Asn) → command ≢ Assert prefix max_len asn)
+    → ((prefix : Prefix) (max_len : ℕ) (asn : Asn) → command ≢ NoAssert prefix max_len asn) → is_free command ≡ true
+free_left (AddPeer slot peer) other filter unfilter claim unclaim = absurd cc
+free_left (RemovePeer slot) other filter unfilter claim unclaim = refl
+free_left (Enable slot) other filter unfilter claim unclaim = refl
+free_left (Disable slot) other filter unfilter claim unclaim = refl
+free_left (SetPolicy name rules) other filter unfilter claim unclaim = absurd cc
+free_left (DropPolicy name) other filter unfilter claim unclaim = refl
+free_left (UseIn slot name) other filter unfilter claim unclaim = refl
+free_left (UseOut slot name) other filter unfilter claim unclaim = refl
+free_left (Network prefix) other filter unfilter claim unclaim = absurd cc
+free_left (NoNetwork prefix) other filter unfilter claim unclaim = refl
+free_left (Reach prefix cost) other filter unfilter claim unclaim = absurd cc
+free_left (NoReach prefix) other filter unfilter claim unclaim = absurd cc
+free_left (Filter prefix asn) other filter unfilter claim unclaim = absurd (filter prefix asn refl)
+free_left (NoFilter prefix asn) other filter unfilter claim unclaim = absurd (unfilter prefix asn refl)
+free_left (Assert prefix max_len asn) other filter unfilter claim unclaim = absurd (claim prefix max_len asn refl)
+free_left (NoAssert prefix max_len asn) other filter unfilter claim unclaim = absurd (unclaim prefix max_len asn refl)
+
+-- no other kind takes no memory
+pub none_free : (command : Command) → is_free command ≡ true → ((slot : ℕ) → command ≢ RemovePeer slot)
+    → ((slot : ℕ) → command ≢ Enable slot)
+    → ((slot : ℕ) → command ≢ Disable slot)
+    → ((name : Bor (List ℕ)) → command ≢ DropPolicy name)
+    → ((slot : ℕ) (name : Bor (List ℕ)) → command ≢ UseIn slot name)
+    → ((slot : ℕ) (name : Bor (List ℕ)) → command ≢ UseOut slot name)
+    → ((prefix : Prefix) → command ≢ NoNetwork prefix) → ⊥
+none_free (AddPeer slot peer) free remove enable disable drop intake export retract = absurd cc
+none_free (RemovePeer slot) free remove enable disable drop intake export retract = remove slot refl
+none_free (Enable slot) free remove enable disable drop intake export retract = enable slot refl
+none_free (Disable slot) free remove enable disable drop intake export retract = disable slot refl
+none_free (SetPolicy name rules) free remove enable disable drop intake export retract = absurd cc
+none_free (DropPolicy name) free remove enable disable drop intake export retract = drop name refl
+none_free (UseIn slot name) free remove enable disable drop intake export retract = intake slot name refl
+none_free (UseOut slot name) free remove enable disable drop intake export retract = export slot name refl
+none_free (Network prefix) free remove enable disable drop intake export retract = absurd cc
+none_free (NoNetwork prefix) free remove enable disable drop intake export retract = retract prefix refl
+none_free (Reach prefix cost) free remove enable disable drop intake export retract = absurd cc
+none_free (NoReach prefix) free remove enable disable drop intake export retract = absurd cc
+none_free (Filter prefix asn) free remove enable disable drop intake export retract = absurd cc
+none_free (NoFilter prefix asn) free remove enable disable drop intake export retract = absurd cc
+none_free (Assert prefix max_len asn) free remove enable disable drop intake export retract = absurd cc
+none_free (NoAssert prefix max_len asn) free remove enable disable drop intake export retract = absurd cc

@@ -4,6 +4,7 @@ use Rattle.std.proofs.lemmas.List.{length-take}
 use Rattle.std.specs.Option.{IsSome, option_and_then}
 use Rattle.bgp_attr.specs.PathAttributes.{PathAttributes}
 use Rattle.bgp_conf.specs.Configuration.{Configuration, peer_at}
+use Rattle.bgp_conf.specs.declared.command.Command.{Command}
 use Rattle.bgp_conf.specs.declared.conf.ConfiguredPeer.{ConfiguredPeer}
 use Rattle.bgp_fsm.proofs.TableLaws.{no_memory_closes}
 use Rattle.bgp_fsm.specs.SessionTable.{effects_of}
@@ -31,11 +32,14 @@ use Rattle.runs.proofs.SlotStates.{SlotIs, slot_agrees, slot_from, linked_from}
 use Rattle.routing.specs.Chosen.{named_if, AreDifferent, Ends}
 use Rattle.runs.specs.Choices.{choices_by, choices_in, choices_on, routes_held}
 use Rattle.routing.specs.Linked.{Linked, moved, taken_on, taken_of}
+use Rattle.speaker.specs.Ready.{IsReady, is_command}
 use Rattle.speaker.specs.Moves.{KeepsKept, KeepsRest, IsPut, Moves, Pushes, TakesItem}
 use Rattle.runs.specs.Queueing.{Queue, starved_in}
+use Rattle.runs.specs.declared.event.Event.{Event}
+use Rattle.runs.specs.declared.event.Event.TheVariants.{Up, Fail, Bytes, Tick, Command as Commanded, CacheUp, CacheFail, CacheBytes}
 use Rattle.runs.specs.declared.event.Report.{Report}
 use Rattle.std.specs.Int.Bits.{bit_or}
-use Rattle.runs.specs.Runs.{Call, Run, Turn, cache_history, cache_opened_by, cache_starved_by, report_of, turn, asked, starved_by, Bytes_call, Starved_call, configuration_of, history, moment_after, opened_by, terms_in}
+use Rattle.runs.specs.Runs.{Call, Run, Turn, cache_history, report_of, turn, asked, Bytes_call, Starved_call, configuration_of, history, moment_after, terms_in}
 use Rattle.rtr_codec.specs.ClientTable.{in_force}
 use Rattle.rtr_session.specs.SessionHistory as cached
 use Rattle.runs.specs.SpeakerState.{SpeakerState}
@@ -490,17 +494,6 @@ pub Hears-none : (slot : ℕ) (rest : List ℕ) (s : SpeakerState) → rest ≡ 
 Hears-none slot rest s none config r done peer configured holds =
     subst (λ x. Holds config (turn (Bytes_call slot x) [] ∷ r) s) (sym (append-nil done) ∙ ap (λ x. done ++ x) (sym none)) holds
 
--- a call that has taken its event, up to its end, and what it reports so far
-pub record IsReady (config : Config) (r : Run) (wanted : Call) (done : Report) (s : SpeakerState) : Type 0 where
-  pub call : Call
-  pub asked_is : asked call ≡ wanted
-  pub opened_is : opened_by config r call ≡ done.opened
-  pub starved_is : starved_by call ≡ done.starved
-  pub cache_opened_is : cache_opened_by config r call ≡ done.cache_opened
-  pub cache_starved_is : cache_starved_by call ≡ done.cache_starved
-  pub fair : IsFair config r call
-  pub holds : Holds config (turn call [] ∷ r) s
-
 -- octets to one of which memory was refused
 pub ready_starved : (config : Config) (r : Run) (slot starved : ℕ) (octets : List ℕ) (peer : ConfiguredPeer) (old new : SpeakerState) → starved ≡ 2 ^ slot → HearsUntil slot octets old new
     → peer_at old.conf slot ≡ Some peer → Holds config r old → old.chosen ≤ old.chosen_before → IsReady config r (Bytes_call slot octets) (record { opened = 0; starved = starved; cache_opened = false; cache_starved = false }) new
@@ -525,3 +518,14 @@ pub steps : (config : Config) (r : Run) (wanted : Call) (done : Report) (mid new
 steps config r wanted done mid new more report ready thrifty settles is =
     let end = settles config ready.call r ready.holds ready.fair thrifty in
     (turn ready.call end.0, ready.asked_is, rw (ready.opened_is, ready.starved_is, ready.cache_opened_is, ready.cache_starved_is, end.1) is, end.2)
+
+-- an event that isn't a command
+pub no_command : (event : Event) → ((command : Command) → event ≢ Commanded command) → is_command event ≡ false
+no_command (Up slot) never = refl
+no_command (Fail slot) never = refl
+no_command (Bytes slot octets) never = refl
+no_command (Tick now) never = refl
+no_command (Commanded command) never = absurd (never command refl)
+no_command CacheUp never = refl
+no_command CacheFail never = refl
+no_command (CacheBytes octets) never = refl

@@ -1,9 +1,10 @@
-use Rattle.std.proofs.Common.{◌≡◌, ◌≤◌, ◌<◌, ◌++◌, ◌==◌, ℕ, zero, suc, IfOk, IfErr, Bool, true, false, cond, List, [], ◌∷◌, Option, Some, None, Result, Ok, Err, refl, sym, ap, ◌∙◌, subst, arith}
+use Rattle.std.proofs.Common.{◌≡◌, ◌≤◌, ◌<◌, ◌++◌, ◌==◌, ◌||◌, ℕ, zero, suc, IfOk, IfErr, Bool, true, false, cond, List, [], ◌∷◌, Option, Some, None, Result, Ok, Err, refl, sym, ap, ◌∙◌, subst, arith}
 use Rattle.std.specs.Option.{MatchOption}
+use Rattle.std.specs.Prelude.{not}
 use Rattle.bgp_conf.specs.declared.refusal.Refusal.{Refusal}
 use Rattle.bgp_conf.specs.declared.refusal.Refusal.TheVariants.{NoMemory}
 use Rattle.net_prefix.specs.declared.prefix.Prefix.{Prefix}
-use Rattle.runs.proofs.RefusedEvents.{agrees_as_before}
+use Rattle.runs.proofs.RefusedEvents.{agrees_as_before, err_of, unrefused}
 use Rattle.runs.specs.Agreement.{CacheAgrees, Agrees, tables_after}
 use Rattle.routing.specs.LocRib.{HasNoCandidate}
 use Rattle.routing.specs.Tables.{network_route}
@@ -13,7 +14,8 @@ use Rattle.rtr_session.specs.SessionState.{configured}
 use Rattle.runs.specs.FirstRefusal.{refusal_in, refusal_of, Grows, LacksMemory}
 use Rattle.runs.specs.Played.{Follows, GoesOn, IsPlayed, Point, beginning}
 use Rattle.runs.specs.Runs.{Run, Turn, asked, call_of, configuration_of, report_of}
-use Rattle.runs.specs.SpeakerState.{SpeakerState, started, tables_of}
+use Rattle.runs.specs.SlotTimes.{are_lawful, is_retry}
+use Rattle.runs.specs.SpeakerState.{SpeakerState, is_out_of_range, started, tables_of}
 use Rattle.runs.specs.declared.config.Config.{Config}
 use Rattle.runs.specs.declared.event.Event.{Event}
 use Rattle.runs.specs.declared.event.Report.{Report}
@@ -68,6 +70,17 @@ agrees_new config own = record {
   settled = λ s peer configured. absurd (cc);
   thrifty = tt;
 }
+
+first_false : (a b : Bool) → (a || b) ≡ false → a ≡ false
+first_false true b is = absurd cc
+first_false false b is = refl
+
+-- a configuration that isn't out of range has an AS
+pub own_told : (config : Config) → is_out_of_range config ≡ false → (config.asn.0 == 0) ≡ false
+own_told config is =
+    first_false (config.asn.0 == 0) (config.identifier == 0)
+    (first_false (config.asn.0 == 0 || config.identifier == 0) (not (are_lawful config.timers))
+    (first_false (config.asn.0 == 0 || config.identifier == 0 || not (are_lawful config.timers)) (not (is_retry config.cache_retry)) is))
 
 -- one more event with its answer
 follows_more : (config : Config) (before : Point) (events : List Event) (answers : List (Result Report Refusal)) (mid after : Point) (event : Event) (answer : Result Report Refusal)
@@ -127,16 +140,9 @@ played_err config events answers event why s new h first agrees same same_before
   chosen_before = same_before ∙ h.chosen_before;
 }
 
-abbrev err_of : Refusal → Result Report Refusal
-err_of why = Err why
-
 -- what `Speaker::step` promises of a refusal
 abbrev Refuses : Option Refusal → Event → Result Report Refusal → SpeakerState → SpeakerState → Type 0
 Refuses first event answer s new = MatchOption first (IfErr answer (λ why. (why ≡ NoMemory) × LacksMemory event s new)) (λ why. (answer ≡ Err why) × (new ≡ s))
-
-unrefused : (first : Option Refusal) (event : Event) (report : Report) (s new : SpeakerState) → Refuses first event (Ok report) s new → first ≡ None
-unrefused None event report s new m = refl
-unrefused (Some why) event report s new m = absurd (let is = m.0 in cc)
 
 refused_more : (config : Config) (events : List Event) (answers : List (Result Report Refusal)) (event : Event) (why : Refusal) (s new : SpeakerState) (first : Option Refusal) → (h : IsPlayed config events answers s)
     → refusal_in config h.end.run event ≡ first → Refuses first event (Err why) s new → IsPlayed config (events ++ event ∷ []) (answers ++ Err why ∷ []) new
@@ -154,6 +160,6 @@ pub played_more : (config : Config) (events : List Event) (answers : List (Resul
     → Refuses (refusal_of s event) event answer s new
     → IsPlayed config (events ++ event ∷ []) (answers ++ answer ∷ []) new
 played_more config events answers event (Ok report) s new h agrees counted rises refused =
-    played_ok config events answers event report s new h (sym (refusal_same config h.end.run s event h.agrees) ∙ unrefused (refusal_of s event) event report s new refused) agrees (counted, rises)
+    played_ok config events answers event report s new h (sym (refusal_same config h.end.run s event h.agrees) ∙ unrefused (refusal_of s event) report s new refused) agrees (counted, rises)
 played_more config events answers event (Err why) s new h agrees counted rises refused =
     refused_more config events answers event why s new (refusal_of s event) h (sym (refusal_same config h.end.run s event h.agrees)) refused

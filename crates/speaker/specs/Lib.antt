@@ -4,3 +4,4 @@ pub mod Moves
 pub mod Shown
 pub mod Chosen
 pub mod CacheMoves
+pub mod Ready

@@ -10,6 +10,7 @@ ghost use Rattle.runs.specs.SpeakerState.{tables_of};
 ghost use Rattle.bgp_fsm.specs.SessionTable.{effects_of};
 ghost use Rattle.bgp_fsm.specs.declared.input.Input.TheVariants.{Start};
 ghost use Rattle.speaker.specs.Chosen.{Chooses};
+ghost use Rattle.speaker.specs.Ready.{is_free, is_other};
 ghost use Rattle.routing.specs.Linked.{Linked};
 ghost use Rattle.routes.specs.Commands.{DropsPolicy, SetsPolicy, UsesIn, UsesOut, resolves};
 ghost use Rattle.speaker.specs.Moves.{Forgets, Moves};
@@ -42,52 +43,74 @@ impl<A: Allocator + Clone, B: Book<A>> Speaker<A, B> {
     {
         match *command {
             Command::AddPeer(slot, conf) => self.add_peer(command, slot, &conf),
-            Command::Enable(slot) => {
-                self.begin_count();
-                Ok(self.start(slot))
+            Command::SetPolicy(name, _) => self.set_policy(command, name),
+            Command::Network(prefix) => self.originate(command, prefix),
+            Command::Reach(_, _) | Command::NoReach(_) => self.resolve(command),
+            _ => self.obey_other(command),
+        }
+    }
+
+    // The same of one that neither adds to the configuration nor changes how next hops resolve.
+    fn obey_other(&mut self, command: &Command<'_>) -> Result<u64, AllocError>
+        requires accepted { first_refusal self.old.conf (closing_for (tables_of self.old) command.now) command.now ≡ None }
+        requires other { is_other command.now ≡ true }
+        ensures err { OnErr result (IsAsBefore self.old self.new) }
+        ensures memory { OnErr result (TakesMemory self.old.conf command.now) }
+        ensures ok { IfOk result (λ opened. (config : TheConfig) (r : Run) → Holds config r self.old
+            → Holds config (turn (Command_call command.now) [] ∷ r) self.new × (opened ≡ opened_commanded config r command.now)) }
+        ensures counted { OnOk result (self.new.chosen_before ≡ self.old.chosen) }
+        ensures rises { OnOk result (self.old.chosen ≤ self.new.chosen) }
+    {
+        match *command {
+            Command::Filter(prefix, asn) | Command::NoFilter(prefix, asn) => {
+                self.turn_filter(command, prefix, asn)
             }
-            Command::RemovePeer(slot) => {
+            Command::Assert(prefix, max_len, asn) | Command::NoAssert(prefix, max_len, asn) => {
+                self.turn_assertion(command, prefix, max_len, asn)
+            }
+            _ => {
                 self.begin_count();
+                Ok(self.obey_freely(command))
+            }
+        }
+    }
+
+    // A command that takes no memory and isn't refused. Answers the slots whose connection attempt begins, a bit each.
+    fn obey_freely(&mut self, command: &Command<'_>) -> u64
+        requires accepted { first_refusal self.old.conf (closing_for (tables_of self.old) command.now) command.now ≡ None }
+        requires free { is_free command.now ≡ true }
+        ensures ok { (config : TheConfig) (r : Run) → Holds config r self.old → self.old.chosen ≤ self.old.chosen_before
+            → Holds config (turn (Command_call command.now) [] ∷ r) self.new × (result ≡ opened_commanded config r command.now) }
+        ensures counted { self.new.chosen_before ≡ self.old.chosen_before }
+        ensures rises { self.old.chosen ≤ self.new.chosen }
+    {
+        match *command {
+            Command::Enable(slot) => self.start(slot),
+            Command::RemovePeer(slot) => {
                 self.remove_peer(command, slot);
-                Ok(0)
+                0
             }
             Command::Disable(slot) => {
-                self.begin_count();
                 self.input(slot, Input::Disable);
-                Ok(0)
+                0
             }
-            Command::SetPolicy(name, _) => self.set_policy(command, name),
             Command::DropPolicy(_) => {
-                self.begin_count();
                 self.drop_policy(command);
-                Ok(0)
+                0
             }
             Command::UseIn(slot, _) => {
-                self.begin_count();
                 self.use_in(command, slot);
-                Ok(0)
+                0
             }
             Command::UseOut(slot, _) => {
-                self.begin_count();
                 self.use_out(command, slot);
-                Ok(0)
+                0
             }
-            Command::Network(prefix) => self.originate(command, prefix),
             Command::NoNetwork(prefix) => {
-                self.begin_count();
                 self.retract(command, prefix);
-                Ok(0)
+                0
             }
-            Command::Reach(_, _) => self.resolve(command),
-            Command::NoReach(_) => self.resolve(command),
-            Command::Filter(prefix, asn) => self.turn_filter(command, prefix, asn),
-            Command::NoFilter(prefix, asn) => self.turn_filter(command, prefix, asn),
-            Command::Assert(prefix, max_len, asn) => {
-                self.turn_assertion(command, prefix, max_len, asn)
-            }
-            Command::NoAssert(prefix, max_len, asn) => {
-                self.turn_assertion(command, prefix, max_len, asn)
-            }
+            _ => unreachable!(),
         }
     }
 

@@ -1,15 +1,18 @@
 //! The speaker and its calls.
-ghost use Rattle.std.specs.Prelude.{◌≡◌, ◌≤◌, ◌<◌, ◌⊎◌, ◌↔◌, ◌++◌, [], ◌∷◌, true, length, min, take, drop, MatchOption, MatchResult, IfErr, IsOk, IfOk, None, Some};
+ghost use Rattle.std.specs.Prelude.{◌≡◌, ◌≤◌, ◌<◌, ◌⊎◌, ◌↔◌, ◌++◌, [], ◌∷◌, true, false, length, min, take, drop, MatchOption, MatchResult, IfErr, IsOk, IfOk, None, Some};
 ghost use Rattle.std.specs.Option.{option_map};
+ghost use Rattle.bgp_conf.specs.FirstRefusal.{first_refusal};
 ghost use Rattle.bgp_fsm.specs.Transports.{transport_of};
 ghost use Rattle.speaker.specs.Moves.{Hands};
 ghost use Rattle.runs.specs.Runs.{Call, Run, Turn, turn, asked, call_of, report_of, Take_call};
 ghost use Rattle.runs.specs.Agreement.{Agrees, Holds, IsFair, IsThrifty};
 ghost use Rattle.runs.specs.declared.config.Config.{Config as TheConfig};
-ghost use Rattle.runs.specs.FirstRefusal.{closes, closing_for, is_open};
+ghost use Rattle.runs.specs.FirstRefusal.{awaits_up, closes, closing_for, is_open, may_bring_octets, may_fail, refused_at};
 ghost use Rattle.routing.specs.Tables.{configured_session, link_at, session_at};
 ghost use Rattle.routing.specs.Linked.{Linked};
 ghost use Rattle.runs.specs.Queueing.{Queue, starved_in};
+ghost use Rattle.speaker.specs.Ready.{IsReady, is_command};
+ghost use Rattle.runs.specs.SpeakerState.{is_out_of_range};
 
 use crate::cache_session::session_for;
 use bgp_conf::{Command, PEER_SLOTS, Refusal};
@@ -61,6 +64,16 @@ impl<A: Allocator + Clone, B: Book<A>> Model for Speaker<A, B> {
     ghost invariant = { λ s. s.routes.payloads ≡ payloads_in s.cache };
 }
 
+// Whether a speaker of this configuration is refused by 33.
+pub(crate) fn is_out_of_range(config: &Config) -> bool
+    ensures { result ≡ is_out_of_range config.now }
+{
+    config.asn == Asn(0)
+        || config.identifier == 0
+        || !config.timers.are_lawful()
+        || !config.has_retry()
+}
+
 impl<A: Allocator + Clone + Copy, B: Book<A>> Speaker<A, B> {
     ghost use Rattle.runs.specs.SpeakerState.{started, is_out_of_range};
 
@@ -73,11 +86,7 @@ impl<A: Allocator + Clone + Copy, B: Book<A>> Speaker<A, B> {
         ensures range { (result ≡ Err Refusal.Range) ↔ (is_out_of_range config ≡ true) }
         ensures err { IfErr result (λ why. (why ≡ Refusal.Range) ⊎ (why ≡ Refusal.NoMemory)) }
     {
-        if config.asn == Asn(0)
-            || config.identifier == 0
-            || !config.timers.are_lawful()
-            || !config.has_retry()
-        {
+        if is_out_of_range(&config) {
             return Err(Refusal::Range);
         }
         match Speaker::empty(alloc, config) {
@@ -140,16 +149,33 @@ impl<A: Allocator + Clone, B: Book<A>> Speaker<A, B> {
                 Ok(slots) => report.opened = slots,
                 Err(_) => return Err(Refusal::NoMemory),
             },
-            Event::Up(slot) => {
+            _ => {
                 self.begin_count();
+                report = self.take_signal(event);
+            }
+        }
+        report.starved |= self.settle();
+        Ok(report)
+    }
+
+    // An event that is no command and isn't refused, up to the end of its step: what it makes of the sessions. Answers what
+    // it reports so far.
+    fn take_signal(&mut self, event: Event<'_>) -> Report
+        requires accepted { refusal_of self.old event ≡ None }
+        requires signals { is_command event ≡ false }
+        ensures ready { (config : TheConfig) (r : Run) → Holds config r self.old → self.old.chosen ≤ self.old.chosen_before
+            → IsReady config r (call_of event.entry) result self.new }
+        ensures counted { self.new.chosen_before ≡ self.old.chosen_before }
+        ensures rises { self.old.chosen ≤ self.new.chosen }
+    {
+        let mut report = Report::nothing();
+        match event {
+            Event::Command(_) => unreachable!(),
+            Event::Up(slot) => {
                 self.input(slot, Input::Up);
             }
-            Event::Fail(slot) => {
-                self.begin_count();
-                self.fail(slot);
-            }
+            Event::Fail(slot) => self.fail(slot),
             Event::Bytes(slot, octets) => {
-                self.begin_count();
                 // What comes to a connection that is still to be closed is dropped.
                 if self.is_open(slot) {
                     if self.hear(slot, octets).is_err() {
@@ -157,25 +183,16 @@ impl<A: Allocator + Clone, B: Book<A>> Speaker<A, B> {
                     }
                 }
             }
-            Event::CacheUp => {
-                self.begin_count();
-                self.cache_up();
-            }
-            Event::CacheFail => {
-                self.begin_count();
-                self.cache_fail();
-            }
+            Event::CacheUp => self.cache_up(),
+            Event::CacheFail => self.cache_fail(),
             Event::CacheBytes(octets) => {
-                self.begin_count();
                 report.cache_starved = self.hear_cache(octets);
             }
             Event::Tick(now) => {
-                self.begin_count();
                 report = self.tick(now);
             }
         }
-        report.starved |= self.settle();
-        Ok(report)
+        report
     }
 
     fn is_open(&self, slot: u8) -> bool
@@ -236,21 +253,9 @@ impl<A: Allocator + Clone, B: Book<A>> Speaker<A, B> {
         ensures { MatchResult result (λ _. refusal_of self.now event.now ≡ None) (λ why. refusal_of self.now event.now ≡ Some why) }
     {
         match *event {
-            Event::Up(slot) => match self.configured_transport(slot) {
-                Some(Transport::Opening | Transport::Listening) => Ok(()),
-                Some(_) => Err(Refusal::NotExpected),
-                None => Err(Refusal::BadSlot),
-            },
-            Event::Fail(slot) => match self.transport_at(slot) {
-                Some(Transport::Opening | Transport::Open | Transport::Closing) => Ok(()),
-                Some(_) => Err(Refusal::NotExpected),
-                None => Err(Refusal::BadSlot),
-            },
-            Event::Bytes(slot, _) => match self.transport_at(slot) {
-                Some(Transport::Open | Transport::Closing) => Ok(()),
-                Some(_) => Err(Refusal::NotExpected),
-                None => Err(Refusal::BadSlot),
-            },
+            Event::Up(slot) => self.check_up(slot),
+            Event::Fail(slot) => self.check_fail(slot),
+            Event::Bytes(slot, _) => self.check_octets(slot),
             Event::CacheUp => match self.transport_to_cache() {
                 Some(Transport::Listening | Transport::Opening) => Ok(()),
                 _ => Err(Refusal::NotExpected),
@@ -265,11 +270,48 @@ impl<A: Allocator + Clone, B: Book<A>> Speaker<A, B> {
             },
             Event::Tick(now) if now < self.moment => Err(Refusal::ClockBack),
             Event::Tick(_) => Ok(()),
-            Event::Command(command) => {
-                self.routes
-                    .conf()
-                    .check(&command, self.closing_for(&command))
-            },
+            Event::Command(command) => self.check_command(&command),
+        }
+    }
+
+    // The first refusal of a command, if there is one.
+    fn check_command(&self, command: &Command<'_>) -> Result<(), Refusal>
+        ensures { MatchResult result (λ _. first_refusal self.now.conf (closing_for (tables_of self.now) command.now) command.now ≡ None)
+            (λ why. first_refusal self.now.conf (closing_for (tables_of self.now) command.now) command.now ≡ Some why) }
+    {
+        self.routes.conf().check(command, self.closing_for(command))
+    }
+
+    // The first refusal of a connection of a slot that comes up, if there is one.
+    fn check_up(&self, slot: u8) -> Result<(), Refusal>
+        ensures { MatchResult result (λ _. refused_at (configured_session (tables_of self.now) slot) awaits_up ≡ None) (λ why. refused_at (configured_session (tables_of self.now) slot) awaits_up ≡ Some why) }
+    {
+        match self.configured_transport(slot) {
+            Some(Transport::Opening | Transport::Listening) => Ok(()),
+            Some(_) => Err(Refusal::NotExpected),
+            None => Err(Refusal::BadSlot),
+        }
+    }
+
+    // The first refusal of a failure of a slot's connection, or of its attempt at one, if there is one.
+    fn check_fail(&self, slot: u8) -> Result<(), Refusal>
+        ensures { MatchResult result (λ _. refused_at (session_at self.now.links slot) may_fail ≡ None) (λ why. refused_at (session_at self.now.links slot) may_fail ≡ Some why) }
+    {
+        match self.transport_at(slot) {
+            Some(Transport::Opening | Transport::Open | Transport::Closing) => Ok(()),
+            Some(_) => Err(Refusal::NotExpected),
+            None => Err(Refusal::BadSlot),
+        }
+    }
+
+    // The first refusal of octets on a slot's connection, if there is one.
+    fn check_octets(&self, slot: u8) -> Result<(), Refusal>
+        ensures { MatchResult result (λ _. refused_at (session_at self.now.links slot) may_bring_octets ≡ None) (λ why. refused_at (session_at self.now.links slot) may_bring_octets ≡ Some why) }
+    {
+        match self.transport_at(slot) {
+            Some(Transport::Open | Transport::Closing) => Ok(()),
+            Some(_) => Err(Refusal::NotExpected),
+            None => Err(Refusal::BadSlot),
         }
     }
 
