@@ -5,6 +5,7 @@ use Rattle.std.specs.Result.{IsErrAnd}
 use Rattle.bgp_conf.specs.declared.command.Command.{Command}
 use Rattle.bgp_conf.specs.declared.refusal.Refusal.{Refusal}
 use Rattle.bgp_conf.specs.declared.refusal.Refusal.TheVariants.{NoMemory as Memory}
+use Rattle.runs.proofs.AcceptedCommands.{accepted-append, accepted_one}
 use Rattle.runs.proofs.RefusedEvents.{err_of}
 use Rattle.runs.specs.Agreement.{Agrees}
 use Rattle.runs.specs.FirstRefusal.{LacksMemory, refusal_of}
@@ -25,7 +26,7 @@ use Rattle.scenario.specs.declared.commands.CommandsFault.TheVariants.{BadLine, 
 
 -- no line is obeyed
 pub obeys_none : (s : SpeakerState) → Obeys [] s s
-obeys_none s config r agrees = ([], refl, agrees)
+obeys_none s config r agrees = ([], refl, tt, agrees)
 
 are_commands-append : (one two : List (List ℕ)) (first second : Run) → AreCommandsOf one first → AreCommandsOf two second → AreCommandsOf (one ++ two) (second ++ first)
 are_commands-append [] two first second none are = subst (λ r. AreCommandsOf two r) (sym (ap (λ (r : Run). second ++ r) none ∙ append-nil second)) are
@@ -35,9 +36,9 @@ are_commands-append (line ∷ one) two first second are more =
 obeys_then : (one two : List (List ℕ)) (old mid new : SpeakerState) → Obeys one old mid → Obeys two mid new → Obeys (one ++ two) old new
 obeys_then one two old mid new first second config r agrees =
     let a = first config r agrees in
-    let b = second config (a.0 ++ r) a.2 in
-    let agreed : Agrees config ((b.0 ++ a.0) ++ r) new = rw append_assoc b.2 in
-    (b.0 ++ a.0, are_commands-append one two a.0 b.0 a.1 b.1, agreed)
+    let b = second config (a.0 ++ r) a.3 in
+    let agreed : Agrees config ((b.0 ++ a.0) ++ r) new = rw append_assoc b.3 in
+    (b.0 ++ a.0, are_commands-append one two a.0 b.0 a.1 b.1, accepted-append config r a.0 b.0 a.2 b.2, agreed)
 
 pub obeys_some : (one two : List (List ℕ)) (old mid new : SpeakerState) → Obeys one old mid → Obeys two mid new → ObeysSome old new
 obeys_some one two old mid new first second = (one ++ two, obeys_then one two old mid new first second)
@@ -52,7 +53,7 @@ turns_of_nothing line nothing =
     subst (λ (b : Bool). MatchBool b N O) (sym nothing) start
 
 pub obeys_nothing : (line : List ℕ) (s : SpeakerState) → says_nothing line ≡ true → Obeys (line ∷ []) s s
-obeys_nothing line s nothing config r agrees = ([], ([], [], refl, turns_of_nothing line nothing, refl), agrees)
+obeys_nothing line s nothing config r agrees = ([], ([], [], refl, turns_of_nothing line nothing, refl), tt, agrees)
 
 -- a line whose command was accepted
 obeys_command : (line : List ℕ) (command : Command) (old new : SpeakerState) → says_nothing line ≡ false → Says (words_in (without_end line)) command → Takes command (Ok tt) old new → Obeys (line ∷ []) old new
@@ -62,12 +63,12 @@ obeys_command line command old new says said takes config r agrees =
     let N : Type 0 = done ≡ [] in
     let O : Type 0 = (t : Turn) × (done ≡ t ∷ []) × IsCommandOn line t in
     let on : O = (now.0, refl, (command, said, now.1)) in
-    (done, ([], done, refl, subst (λ (b : Bool). MatchBool b N O) (sym says) on, refl), now.2)
+    (done, ([], done, refl, subst (λ (b : Bool). MatchBool b N O) (sym says) on, refl), accepted_one config r now.0 command now.1 now.2, now.3)
 
 -- a line that was handed in: its command was accepted, or refused
 pub obeys_line : (line : List ℕ) (command : Command) (result : Result (Unit {0}) CommandsFault) (old new : SpeakerState) → says_nothing line ≡ false → Says (words_in (without_end line)) command → Takes command result old new → Obeys (if is_ok result then line ∷ [] else []) old new
 obeys_line line command (Ok done) old new says said takes = obeys_command line command old new says said takes
-obeys_line line command (Err fault) old new says said takes = λ config r agrees. ([], refl, takes config r agrees)
+obeys_line line command (Err fault) old new says said takes = λ config r agrees. ([], refl, tt, takes config r agrees)
 
 -- the lines before the one of this number were read, and the others are left
 pub record IsReadUpTo (left : Option (List ℕ)) (number : ℕ) (read : List (List ℕ)) (text : List ℕ) : Type 0 where

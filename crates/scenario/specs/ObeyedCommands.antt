@@ -1,12 +1,13 @@
 -- What the commands on lines make of a speaker.
-use Rattle.std.specs.Prelude.{◌≡◌, ◌+◌, ◌++◌, ◌⊎◌, ℕ, ⊤, false, IsAscii, List, [], ◌∷◌, Some, Result, Ok, Err, length}
+use Rattle.std.specs.Prelude.{◌≡◌, ◌+◌, ◌++◌, ◌⊎◌, ℕ, ⊤, false, IsAscii, List, [], ◌∷◌, None, Some, Result, Ok, Err, length}
 use Rattle.std.specs.Bool.{MatchBool}
 use Rattle.bgp_conf.specs.declared.command.Command.{Command}
 use Rattle.bgp_conf.specs.declared.refusal.Refusal.{Refusal}
 use Rattle.command_lines.specs.CommandWords.{SayNone, Says}
 use Rattle.command_lines.specs.Words.{words_in}
+use Rattle.runs.specs.AcceptedCommands.{AreAccepted}
 use Rattle.runs.specs.Agreement.{Agrees}
-use Rattle.runs.specs.FirstRefusal.{refusal_of}
+use Rattle.runs.specs.FirstRefusal.{refusal_in, refusal_of}
 use Rattle.runs.specs.Runs.{Run, Turn, Command_call, asked}
 use Rattle.runs.specs.SpeakerState.{SpeakerState}
 use Rattle.runs.specs.declared.config.Config.{Config}
@@ -28,10 +29,10 @@ abbrev pub AreCommandsOf : List (List ℕ) → Run → Type 0
 AreCommandsOf [] r = r ≡ []
 AreCommandsOf (line ∷ lines) r = (later first : Run) × (r ≡ later ++ first) × AreTurnsOf line first × AreCommandsOf lines later
 
--- the commands on these lines were accepted: for every run that the speaker agreed with, it agrees with that run followed by
--- them
+-- the commands on these lines were accepted: for every run that the speaker agreed with, none of them is refused behind that run and
+-- those before it, and the speaker agrees with that run followed by them
 abbrev pub Obeys : List (List ℕ) → SpeakerState → SpeakerState → Type 0
-Obeys lines old new = (config : Config) (r : Run) → Agrees config r old → (more : Run) × AreCommandsOf lines more × Agrees config (more ++ r) new
+Obeys lines old new = (config : Config) (r : Run) → Agrees config r old → (more : Run) × AreCommandsOf lines more × AreAccepted config r more × Agrees config (more ++ r) new
 
 -- those on some lines were
 abbrev pub ObeysSome : SpeakerState → SpeakerState → Type 0
@@ -39,7 +40,7 @@ ObeysSome old new = (lines : List (List ℕ)) × Obeys lines old new
 
 -- a command is accepted, or refused and nothing is changed that others see
 abbrev pub Takes : Command → Result (Unit {0}) CommandsFault → SpeakerState → SpeakerState → Type 0
-Takes command (Ok done) old new = (config : Config) (r : Run) → Agrees config r old → (now : Turn) × (asked now.call ≡ Command_call command) × Agrees config (now ∷ r) new
+Takes command (Ok done) old new = (config : Config) (r : Run) → Agrees config r old → (now : Turn) × (asked now.call ≡ Command_call command) × (refusal_in config r (Commanded command) ≡ None) × Agrees config (now ∷ r) new
 Takes command (Err fault) old new = (config : Config) (r : Run) → Agrees config r old → Agrees config r new
 
 -- the line says something that is no command: octets that aren't ASCII, or words that say none

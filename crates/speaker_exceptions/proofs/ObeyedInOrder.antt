@@ -2,6 +2,7 @@
 use Rattle.std.proofs.Common.{◌≡◌, ◌++◌, ◌∙◌, List, [], ◌∷◌, Option, None, Some, MatchOption, Result, Ok, Err, inl, inr, map, refl, sym, ap, subst, append_assoc, append-nil}
 use Rattle.std.specs.Result.{IsErrAnd}
 use Rattle.bgp_conf.specs.declared.command.Command.{Command}
+use Rattle.runs.proofs.AcceptedCommands.{accepted-append, accepted_one}
 use Rattle.runs.proofs.RefusedEvents.{err_of, takes_nothing}
 use Rattle.runs.specs.Agreement.{Agrees}
 use Rattle.runs.specs.FirstRefusal.{LacksMemory, refusal_of}
@@ -17,13 +18,13 @@ use Rattle.speaker_exceptions.specs.ObeyedExceptions.{AreTurnsOf, IsRefusedBy, O
 
 -- no command is obeyed
 pub obeys_none : (s : SpeakerState) → Obeys [] s s
-obeys_none s config r agrees = ([], refl, agrees)
+obeys_none s config r agrees = ([], refl, tt, agrees)
 
 -- one is
 obeys_one : (command : Command) (old new : SpeakerState) → ObeysOne command (Ok tt) old new → Obeys (command ∷ []) old new
 obeys_one command old new one config r agrees =
     let now = one config r agrees in
-    (now.0 ∷ [], ([], now.0, refl, now.1, refl), now.2)
+    (now.0 ∷ [], ([], now.0, refl, now.1, refl), accepted_one config r now.0 command now.1 now.2, now.3)
 
 are_turns-append : (one two : List Command) (first second : Run) → AreTurnsOf one first → AreTurnsOf two second → AreTurnsOf (one ++ two) (second ++ first)
 are_turns-append [] two first second none are = subst (λ r. AreTurnsOf two r) (sym (ap (λ (r : Run). second ++ r) none ∙ append-nil second)) are
@@ -34,9 +35,9 @@ are_turns-append (command ∷ one) two first second are more =
 pub obeys_then : (one two : List Command) (old mid new : SpeakerState) → Obeys one old mid → Obeys two mid new → Obeys (one ++ two) old new
 obeys_then one two old mid new first second config r agrees =
     let a = first config r agrees in
-    let b = second config (a.0 ++ r) a.2 in
-    let agreed : Agrees config ((b.0 ++ a.0) ++ r) new = rw append_assoc b.2 in
-    (b.0 ++ a.0, are_turns-append one two a.0 b.0 a.1 b.1, agreed)
+    let b = second config (a.0 ++ r) a.3 in
+    let agreed : Agrees config ((b.0 ++ a.0) ++ r) new = rw append_assoc b.3 in
+    (b.0 ++ a.0, are_turns-append one two a.0 b.0 a.1 b.1, accepted-append config r a.0 b.0 a.2 b.2, agreed)
 
 -- of those of these items some were, and these are left
 pub record AreLeft {T : Type 0} (command_of : T → Command) (items left : List T) (old new : SpeakerState) : Type 0 where
@@ -66,7 +67,7 @@ left_none {T} command_of items left old new none so =
 obeys_still : (commands : List Command) (old mid new : SpeakerState) → Obeys commands old mid → Stays mid new → Obeys commands old new
 obeys_still commands old mid new obeys stays config r agrees =
     let more = obeys config r agrees in
-    (more.0, more.1, stays config (more.0 ++ r) more.2)
+    (more.0, more.1, more.2, stays config (more.0 ++ r) more.3)
 
 map-part : {T : Type 0} (command_of : T → Command) (done : List T) (item : T) (left : List T) → map command_of (done ++ item ∷ left) ≡ map command_of done ++ command_of item ∷ map command_of left
 map-part command_of [] item left = refl

@@ -8,8 +8,9 @@ use Rattle.local_exceptions.specs.ExceptionSets.{ExceptionSets}
 use Rattle.local_exceptions.specs.declared.filter.Filter.{Filter}
 use Rattle.local_exceptions.specs.declared.filter.Filter.TheVariants.{Prefix, As, Both}
 use Rattle.net_prefix.specs.declared.payload.Vrp.{Vrp}
+use Rattle.runs.specs.AcceptedCommands.{AreAccepted}
 use Rattle.runs.specs.Agreement.{Agrees}
-use Rattle.runs.specs.FirstRefusal.{refusal_of}
+use Rattle.runs.specs.FirstRefusal.{refusal_in, refusal_of}
 use Rattle.runs.specs.Runs.{Run, Turn, Command_call, asked}
 use Rattle.runs.specs.SpeakerState.{SpeakerState}
 use Rattle.runs.specs.declared.config.Config.{Config}
@@ -34,9 +35,10 @@ abbrev pub AreTurnsOf : List Command → Run → Type 0
 AreTurnsOf [] r = r ≡ []
 AreTurnsOf (command ∷ commands) r = (later : Run) × (now : Turn) × (r ≡ later ++ now ∷ []) × (asked now.call ≡ Command_call command) × AreTurnsOf commands later
 
--- these commands were accepted, in order: for every run that the speaker agreed with, it agrees with that run followed by them
+-- these commands were accepted, in order: for every run that the speaker agreed with, none of them is refused behind that run and
+-- those before it, and the speaker agrees with that run followed by them
 abbrev pub Obeys : List Command → SpeakerState → SpeakerState → Type 0
-Obeys commands old new = (config : Config) (r : Run) → Agrees config r old → (more : Run) × AreTurnsOf commands more × Agrees config (more ++ r) new
+Obeys commands old new = (config : Config) (r : Run) → Agrees config r old → (more : Run) × AreTurnsOf commands more × AreAccepted config r more × Agrees config (more ++ r) new
 
 -- nothing was: the speaker agrees with the runs that it agreed with
 abbrev pub Stays : SpeakerState → SpeakerState → Type 0
@@ -48,7 +50,7 @@ IsRefusedBy s command why = (refusal_of s (Commanded command) ≡ Some why) ⊎ 
 
 -- one was accepted, or refused for this
 abbrev pub ObeysOne : Command → Result (Unit {0}) Refusal → SpeakerState → SpeakerState → Type 0
-ObeysOne command (Ok done) old new = (config : Config) (r : Run) → Agrees config r old → (now : Turn) × (asked now.call ≡ Command_call command) × Agrees config (now ∷ r) new
+ObeysOne command (Ok done) old new = (config : Config) (r : Run) → Agrees config r old → (now : Turn) × (asked now.call ≡ Command_call command) × (refusal_in config r (Commanded command) ≡ None) × Agrees config (now ∷ r) new
 ObeysOne command (Err why) old new = IsRefusedBy new command why × Stays old new
 
 -- one of these commands is refused for this by a speaker that is as those before it leave it
