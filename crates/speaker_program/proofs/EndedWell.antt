@@ -1,5 +1,5 @@
 -- What is known where serving ended well.
-use Rattle.std.proofs.Common.{◌≡◌, ℕ, Bool, true, false, List, [], ◌∷◌, String, Global, OnOk, Option, None, Some, Result, Ok, Err, IfOk, string_bytes, ap, ◌∙◌, sym, subst}
+use Rattle.std.proofs.Common.{◌≡◌, ◌≢◌, ℕ, Bool, true, false, List, [], ◌∷◌, String, Global, OnOk, Option, None, Some, Result, Ok, Err, IfErr, IfOk, string_bytes, ap, ◌∙◌, sym, subst}
 use Rattle.std.specs.declared.net.socket_addr.SocketAddr.{SocketAddr}
 use Rattle.program_endings.specs.Asides.{Asks}
 use Rattle.program_endings.specs.Exits.{status_of}
@@ -9,12 +9,10 @@ use Rattle.program_endings.specs.declared.fault.ExitFault.{ExitFault}
 use Rattle.program_endings.specs.declared.fault.ExitFault.TheVariants.{Arguments, Settings, BadLine, RefusedLine, Device}
 use Rattle.speaker_program.proofs.AskedBefore.{asked_before}
 use Rattle.speaker_program.specs.Begun.{AreOperatorsOf, AttendsOperators, AttendsSocket, IsServed, TakesTurnsOf, has_commands, patience_of}
-use Rattle.slurm_files.specs.SlurmDocument.{Said}
-use Rattle.speaker_program.specs.Commanded.{AreSaidOf}
+use Rattle.speaker_program.proofs.Failures.{begun_as, settings_as, speaker_as}
 use Rattle.speaker_program.specs.HeldBack.{waits}
-use Rattle.speaker_program.specs.Checked.{IsChecked, IsCheckedBy}
+use Rattle.speaker_program.specs.Checked.{IsChecked, OfAside}
 use Rattle.speaker_program.specs.Endings.{EndsSo, status_at_end}
-use Rattle.speaker_program.specs.Files.{AreOctetsAt}
 use Rattle.speaker_program.specs.Exits.{exit_of_fault}
 use Rattle.speaker_program.specs.declared.fault.SpeakerFault.{SpeakerFault}
 use Rattle.speaker_settings.specs.declared.settings.SpeakerSettings.{SpeakerSettings}
@@ -39,34 +37,26 @@ pub served_so : {T : Type 0} {P : T → Type 0} (r : Result T SpeakerFault) (end
 served_so (Ok x) ended ends zero is = (x, is)
 served_so (Err fault) ended ends zero is = absurd (never_zero (exit_of_fault fault) (sym (ap status_at_end ends) ∙ zero))
 
+-- where it isn't, there is a fault, so
+pub failed_so : (P : SpeakerFault → Type 0) (r : Result (Unit {0}) SpeakerFault) (status : ℕ) → status ≡ status_at_end r → status ≢ 0 → IfErr r P → (fault : SpeakerFault) × (status ≡ status_of (exit_of_fault fault)) × P fault
+failed_so P (Ok done) status is bad fails = absurd (bad is)
+failed_so P (Err fault) status is bad fails = (fault, is, fails)
+
+pub ended_so : {T : Type 0} (P : SpeakerFault → Type 0) (r : Result T SpeakerFault) (ended : Result (Unit {0}) SpeakerFault) → EndsSo r ended → IfErr r P → IfErr ended P
+ended_so P (Ok x) ended ends is = subst (λ (e : Result (Unit {0}) SpeakerFault). IfErr e P) (sym ends) tt
+ended_so P (Err fault) ended ends is = subst (λ (e : Result (Unit {0}) SpeakerFault). IfErr e P) (sym ends) is
+
 -- how operators are attended to
 abbrev Attending : Type 1
 Attending = SpeakerSettings → ℕ → List ℕ → List ℕ → Turns → Turns → Type 0
 
--- what is known of texts may be said more weakly
-pub said_as : (Told Tells : List ℕ → Option (List ℕ) → Type 0) (slurm : Option (String Global)) (said : Said) → AreSaidOf Told slurm said → ((path : List ℕ) (text : Option (List ℕ)) → Told path text → Tells path text) → AreSaidOf Tells slurm said
-said_as Told Tells None said is tells = is
-said_as Told Tells (Some path) said is tells = (is.0, tells (string_bytes path) is.0 is.1, is.2)
-
--- and so may what is known of texts, of wires and of operators
+-- what is known of texts, of wires and of operators may be said more weakly
 pub served_as : (Told Tells : List ℕ → Option (List ℕ) → Type 0) (Opened Opens : WireState → Type 0) (Attended Attends : Attending) (settings : SpeakerSettings) (count : ℕ) (before behind : List ℕ) (turns : Turns) → IsServed Told Opened Attended settings count before behind turns
     → ((path : List ℕ) (text : Option (List ℕ)) → Told path text → Tells path text) → ((wire : WireState) → Opened wire → Opens wire) → ((old new : Turns) → Attended settings count before behind old new → Attends settings count before behind old new) → IsServed Tells Opens Attends settings count before behind turns
 served_as Told Tells Opened Opens Attended Attends settings count before behind turns is tells opens attends =
     record {
       begun = is.begun;
-      begins =
-          record {
-            speaker = is.begins.speaker;
-            said = is.begins.said;
-            text = is.begins.text;
-            wire = is.begins.wire;
-            excepted = said_as Told Tells settings.slurm is.begins.said is.begins.excepted tells;
-            told = tells (string_bytes settings.commands) is.begins.text is.begins.told;
-            opened = opens is.begins.wire is.begins.opened;
-            commanded = is.begins.commanded;
-            slots = is.begins.slots;
-            remotes = is.begins.remotes;
-          };
+      begins = begun_as Told Tells Opened Opens settings is.begun tells opens is.begins;
       takes = by_commands (has_commands settings) is.takes;
     }
   where
@@ -98,21 +88,25 @@ zero_is_well (Ok done) zero is = is
 zero_is_well (Err fault) zero is = absurd (never_zero (exit_of_fault fault) zero)
 
 -- words ask for one thing
-pub one_aside : (Opened : List ℕ → Option (List ℕ) → Type 0) (words : List (String Global)) (a b : Aside) → Asks words a → Asks words b → IsCheckedBy Opened a → IsCheckedBy Opened b
-one_aside Opened words a Help x y is = tt
-one_aside Opened words a Version x y is = tt
-one_aside Opened [] (Check path) (Check other) x y is = absurd y
-one_aside Opened (word ∷ []) (Check path) (Check other) x y is = absurd y
-one_aside Opened (word ∷ settings ∷ []) (Check path) (Check other) x y is = subst (IsChecked (AreOctetsAt Opened) Opened) (x.1 ∙ sym y.1) is
-one_aside Opened (word ∷ settings ∷ more ∷ words) (Check path) (Check other) x y is = absurd y
-one_aside Opened [] Help (Check other) x y is = absurd y
-one_aside Opened (word ∷ []) Help (Check other) x y is = absurd y
-one_aside Opened (word ∷ settings ∷ []) Help (Check other) x y is = absurd x
-one_aside Opened (word ∷ settings ∷ more ∷ words) Help (Check other) x y is = absurd y
-one_aside Opened [] Version (Check other) x y is = absurd y
-one_aside Opened (word ∷ []) Version (Check other) x y is = absurd y
-one_aside Opened (word ∷ settings ∷ []) Version (Check other) x y is = absurd x
-one_aside Opened (word ∷ settings ∷ more ∷ words) Version (Check other) x y is = absurd y
+pub one_aside : (Is : List ℕ → Type 0) (Printed : Type 0) (words : List (String Global)) (a b : Aside) → Asks words a → Asks words b → OfAside Is Printed a → OfAside Is Printed b
+one_aside Is Printed words Help Help x y is = is
+one_aside Is Printed words Help Version x y is = is
+one_aside Is Printed words Version Help x y is = is
+one_aside Is Printed words Version Version x y is = is
+one_aside Is Printed [] (Check path) b x y is = absurd x
+one_aside Is Printed [] Help (Check other) x y is = absurd y
+one_aside Is Printed [] Version (Check other) x y is = absurd y
+one_aside Is Printed (word ∷ []) (Check path) b x y is = absurd x
+one_aside Is Printed (word ∷ []) Help (Check other) x y is = absurd y
+one_aside Is Printed (word ∷ []) Version (Check other) x y is = absurd y
+one_aside Is Printed (word ∷ settings ∷ []) (Check path) (Check other) x y is = subst Is (x.1 ∙ sym y.1) is
+one_aside Is Printed (word ∷ settings ∷ []) (Check path) Help x y is = absurd y
+one_aside Is Printed (word ∷ settings ∷ []) (Check path) Version x y is = absurd y
+one_aside Is Printed (word ∷ settings ∷ []) Help (Check other) x y is = absurd x
+one_aside Is Printed (word ∷ settings ∷ []) Version (Check other) x y is = absurd x
+one_aside Is Printed (word ∷ settings ∷ more ∷ words) (Check path) b x y is = absurd x
+one_aside Is Printed (word ∷ settings ∷ more ∷ words) Help (Check other) x y is = absurd y
+one_aside Is Printed (word ∷ settings ∷ more ∷ words) Version (Check other) x y is = absurd y
 
 -- a text that was opened there is one that was opened here
 pub opened_as : (Opened : List ℕ → Option (List ℕ) → Type 0) (there here : List ℕ) (held text : Option (List ℕ)) → there ≡ here → text ≡ held → Opened there held → Opened here text
@@ -121,18 +115,12 @@ opened_as Opened there here held text path same is = subst (λ (p : List ℕ). O
 -- settings that were checked were checked of what is read so, and of texts that are told so
 pub checked_as : (Read Reads : List ℕ → List ℕ → Type 0) (Told Tells : List ℕ → Option (List ℕ) → Type 0) (path : List ℕ) → IsChecked Read Told path → ((octets : List ℕ) → Read path octets → Reads path octets) → ((at : List ℕ) (text : Option (List ℕ)) → Told at text → Tells at text)
     → IsChecked Reads Tells path
-checked_as Read Reads Told Tells path is reads tells =
-    record {
-      settings = is.settings;
-      read = record { octets = is.read.octets; read = reads is.read.octets is.read.read; table = is.read.table; spelled = is.read.spelled; told = is.read.told };
-      said = is.said;
-      excepted = said_as Told Tells is.settings.slurm is.said is.excepted tells;
-      text = is.text;
-      given = tells (string_bytes is.settings.commands) is.text is.given;
-      speaker = is.speaker;
-      commanded = is.commanded;
-      slots = is.slots;
-    }
+checked_as Read Reads Told Tells path is reads tells = record {
+  settings = is.settings;
+  read = settings_as (Read path) (Reads path) is.settings reads is.read;
+  speaker = is.speaker;
+  is = speaker_as Told Tells is.settings is.speaker tells is.is;
+}
 
 -- what holds anyway, holds where all went well
 pub on_ok_of : {T E : Type 0} {P : Type 0} (r : Result T E) → P → OnOk r P

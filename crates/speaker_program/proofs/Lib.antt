@@ -2,6 +2,7 @@ pub mod AskedBefore
 pub mod AttendedSo
 pub mod Commanding
 pub mod EndedWell
+pub mod Failures
 pub mod OpenedLines
 pub mod OtherFaults
 pub mod Remotes

@@ -19,6 +19,6 @@ said_badly octets why answer is (inl memory) = inl (let one = is in let other = 
 said_badly octets why answer is (inr slurm) = inr (subst (λ (r : Result Said SlurmFault). IsSlurm octets r) is slurm)
 
 -- what can't be had of the file of the settings' path can't be had of settings
-pub unsaid_of : {L : Type 0} (Answers : List ℕ → Result L IoError → Type 0) (remaining : L → Option (List ℕ)) (slurm : Option (String Global)) (path : String Global) (at : List ℕ) (ends : SpeakerFault) → slurm ≡ Some path → at ≡ string_bytes path → IsUnsaidAt Answers remaining at ends → IsUnsaid Answers remaining slurm ends
-unsaid_of Answers remaining slurm path at ends is there unsaid =
-    subst (λ (s : Option (String Global)). IsUnsaid Answers remaining s ends) (sym is) (subst (λ (p : List ℕ). IsUnsaidAt Answers remaining p ends) there unsaid)
+pub unsaid_of : (Told : List ℕ → Option (List ℕ) → Type 0) (Unopened : List ℕ → IoError → Type 0) (slurm : Option (String Global)) (path : String Global) (at : List ℕ) (ends : SpeakerFault) → slurm ≡ Some path → at ≡ string_bytes path → IsUnsaidAt Told Unopened at ends → IsUnsaid Told Unopened slurm ends
+unsaid_of Told Unopened slurm path at ends is there unsaid =
+    subst (λ (s : Option (String Global)). IsUnsaid Told Unopened s ends) (sym is) (subst (λ (p : List ℕ). IsUnsaidAt Told Unopened p ends) there unsaid)

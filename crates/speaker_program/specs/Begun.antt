@@ -2,17 +2,14 @@
 use Rattle.std.specs.Prelude.{◌≡◌, ◌||◌, ℕ, Bool, true, false, List, [], ◌∷◌, Option, None, Some, Ok, String, is_some, string_bytes}
 use Rattle.std.specs.declared.alloc.Global.{Global}
 use Rattle.std.specs.declared.net.socket_addr.SocketAddr.{SocketAddr as Address}
-use Rattle.slurm_files.specs.SlurmDocument.{Said}
 use Rattle.runs.specs.SpeakerState.{SpeakerState}
 use Rattle.speaker_turns.specs.Turns.{Turns, idle, with_patience, with_remote}
 use Rattle.speaker_turns.specs.declared.end.End.TheVariants.{Peer, Cache}
 use Rattle.speaker_turns.specs.declared.patience.Patience.{Patience}
 use Rattle.wires.specs.Wires.{WireState}
-use Rattle.speaker_program.specs.Commanded.{AreSaidOf, IsCommanded, TakesSoMany}
+use Rattle.speaker_program.specs.Commanded.{IsSpeakerOf, TakesSoMany}
 use Rattle.speaker_program.specs.declared.fault.SpeakerFault.{SpeakerFault}
 use Rattle.speaker_program.specs.HeldBack.{AreHeldBack, wait_until, waits}
-use Rattle.speaker_program.specs.Slots.{HasJust}
-use Rattle.speaker_program.specs.ToldConfig.{config_of}
 use Rattle.control_lines.specs.Perhaps.{Becomes, line_of, wish_of}
 use Rattle.control_lines.specs.declared.talk.Wish.{Wish}
 use Rattle.control_sockets.specs.Places.{HearsAt, Turns as VisitsAll, line_at, wish_at}
@@ -44,20 +41,13 @@ patience_of settings = record { send_hold = Some settings.send_hold; open_wait =
 abbrev pub StateFrom : {W : Type 0} → (W → Type 0) → (W → WireState) → WireState → Type 0
 StateFrom {W} gives state_of state = (wire : W) × gives wire × (state ≡ state_of wire)
 
--- a loop before its first turn: its speaker is as the exceptions of the settings, and then their commands, of such texts at their
--- paths, leave one of their AS, Identifier,
--- cache, capabilities and timers, its slots are just those of the settings, it is as patient as they tell, and over such a wire it knows
--- where each peer of the settings is, and their cache
+-- a loop before its first turn: its speaker is one of the settings, by such texts at their paths, it is as patient as they tell, and
+-- over such a wire it knows where each peer of the settings is, and their cache
 pub record IsBegun (Told : List ℕ → Option (List ℕ) → Type 0) (Opened : WireState → Type 0) (settings : SpeakerSettings) (turns : Turns) : Type 0 where
   pub speaker : SpeakerState
-  pub said : Said
-  pub text : Option (List ℕ)
   pub wire : WireState
-  pub excepted : AreSaidOf Told settings.slurm said
-  pub told : Told (string_bytes settings.commands) text
+  pub is : IsSpeakerOf Told settings speaker
   pub opened : Opened wire
-  pub commanded : IsCommanded said.exceptions text (config_of settings) speaker
-  pub slots : HasJust settings.peers.items speaker
   pub remotes : turns ≡ with_remotes settings.peers.items settings.cache (with_patience (patience_of settings) (idle speaker wire))
 
 -- commands may come between turns: the settings have a path for operators, or peers wait for the payloads of a cache

@@ -1,30 +1,34 @@
 -- What is known of settings that were checked (own).
-use Rattle.std.specs.Prelude.{ℕ, List, Option, string_bytes, ⊤}
+use Rattle.std.specs.Prelude.{◌≡◌, ℕ, List, Option, ⊤}
+use Rattle.std.specs.declared.io.Error.{Error as IoError}
 use Rattle.program_endings.specs.declared.aside.Aside.{Aside}
 use Rattle.program_endings.specs.declared.aside.Aside.TheVariants.{Help, Version, Check}
-use Rattle.slurm_files.specs.SlurmDocument.{Said}
 use Rattle.runs.specs.SpeakerState.{SpeakerState}
-use Rattle.speaker_program.specs.Commanded.{AreSaidOf, IsCommanded}
-use Rattle.speaker_program.specs.Files.{AreOctetsAt, AreSettingsOf}
-use Rattle.speaker_program.specs.Slots.{HasJust}
-use Rattle.speaker_program.specs.ToldConfig.{config_of}
+use Rattle.speaker_program.specs.Commanded.{IsSpeakerOf}
+use Rattle.speaker_program.specs.Files.{AreOctetsAt, AreSettingsOf, IsLost}
+use Rattle.speaker_program.specs.Unbegun.{IsUnchecked}
+use Rattle.speaker_program.specs.declared.fault.SpeakerFault.{SpeakerFault}
+use Rattle.speaker_program.specs.declared.fault.SpeakerFault.TheVariants.{Output}
 use Rattle.speaker_settings.specs.declared.settings.SpeakerSettings.{SpeakerSettings}
 
--- octets that are read at the path tell settings, and the exceptions and then the commands of such texts at theirs leave a speaker of
--- them, with just their slots
+-- octets that are read at the path tell settings, and there is a speaker of them, by such texts at their paths
 pub record IsChecked (Read : List ℕ → List ℕ → Type 0) (Told : List ℕ → Option (List ℕ) → Type 0) (path : List ℕ) : Type 0 where
   pub settings : SpeakerSettings
   pub read : AreSettingsOf (Read path) settings
-  pub said : Said
-  pub excepted : AreSaidOf Told settings.slurm said
-  pub text : Option (List ℕ)
-  pub given : Told (string_bytes settings.commands) text
   pub speaker : SpeakerState
-  pub commanded : IsCommanded said.exceptions text (config_of settings) speaker
-  pub slots : HasJust settings.peers.items speaker
+  pub is : IsSpeakerOf Told settings speaker
+
+-- this holds of the path that is to be checked, or that where a text is to be printed
+abbrev pub OfAside : (List ℕ → Type 0) → Type 0 → Aside → Type 0
+OfAside Is Printed Help = Printed
+OfAside Is Printed Version = Printed
+OfAside Is Printed (Check path) = Is path.now
 
 -- files that were opened at the paths are so, where it was to be checked
 abbrev pub IsCheckedBy : (List ℕ → Option (List ℕ) → Type 0) → Aside → Type 0
-IsCheckedBy Opened Help = ⊤
-IsCheckedBy Opened Version = ⊤
-IsCheckedBy Opened (Check path) = IsChecked (AreOctetsAt Opened) Opened path.now
+IsCheckedBy Opened = OfAside (IsChecked (AreOctetsAt Opened) Opened) ⊤
+
+-- they aren't, or can't be had, for this; or what was to be printed isn't
+abbrev pub IsUncheckedBy : (List ℕ → Option (List ℕ) → Type 0) → (List ℕ → IoError → Type 0) → Aside → SpeakerFault → Type 0
+IsUncheckedBy Opened Refused aside ends =
+    OfAside (λ path. IsUnchecked Opened (IsLost Opened Refused) (AreOctetsAt Opened) (IsLost Opened Refused) path ends) ((error : IoError) × (ends ≡ Output error)) aside

@@ -9,7 +9,11 @@ use Rattle.scenario.specs.declared.commands.CommandsFault.{CommandsFault}
 use Rattle.slurm_files.specs.SlurmDocument.{IsSlurm, Said, nothing_said}
 use Rattle.speaker_exceptions.specs.ObeyedExceptions.{AreTurnsOf, commands_of}
 use Rattle.speaker_program.specs.Endings.{IsOfCommands}
+use Rattle.speaker_program.specs.Slots.{HasJust}
+use Rattle.speaker_program.specs.ToldConfig.{config_of}
 use Rattle.speaker_program.specs.declared.fault.SpeakerFault.{SpeakerFault}
+use Rattle.speaker_settings.specs.declared.settings.SpeakerSettings.{SpeakerSettings}
+use Rattle.runs.specs.AcceptedCommands.{AreAccepted}
 use Rattle.runs.specs.Agreement.{Agrees}
 use Rattle.runs.specs.Runs.{Run}
 use Rattle.runs.specs.SpeakerState.{SpeakerState}
@@ -38,19 +42,34 @@ AreSaidOf Told (Some path) said = IsSaidAt Told (string_bytes path) said
 abbrev pub TextAt : {L : Type 0} → (List ℕ → L → Type 0) → (L → Option (List ℕ)) → List ℕ → Option (List ℕ) → Type 0
 TextAt {L} gives remaining path text = (lines : L) × gives path lines × (text ≡ remaining lines)
 
--- the speaker is as the exceptions, and then the commands on the lines of the text, leave one of this configuration
+-- the speaker is as the exceptions, and then the commands on the lines of the text, leave one of this configuration, which refuses none of them
 abbrev pub IsCommanded : ExceptionSets → Option (List ℕ) → Config → SpeakerState → Type 0
 IsCommanded exceptions text config s =
-    (on : List (List ℕ)) × (first later : Run) × AreTurnsOf (commands_of exceptions) first × AreLinesOf text on × AreCommandsOf on later × Agrees config (later ++ first) s
+    (on : List (List ℕ)) × (first later : Run) × AreTurnsOf (commands_of exceptions) first × AreLinesOf text on × AreCommandsOf on later
+    × AreAccepted config [] (later ++ first) × Agrees config (later ++ first) s
+
+-- a speaker of the settings has obeyed their exceptions, and then their commands, of such texts at their paths, and has just their slots
+pub record IsSpeakerOf (Told : List ℕ → Option (List ℕ) → Type 0) (settings : SpeakerSettings) (speaker : SpeakerState) : Type 0 where
+  pub said : Said
+  pub text : Option (List ℕ)
+  pub excepted : AreSaidOf Told settings.slurm said
+  pub told : Told (string_bytes settings.commands) text
+  pub commanded : IsCommanded said.exceptions text (config_of settings) speaker
+  pub slots : HasJust settings.peers.items speaker
 
 -- the commands on the lines of the text were accepted, in order
 abbrev pub ObeysText : Option (List ℕ) → SpeakerState → SpeakerState → Type 0
 ObeysText text old new = (on : List (List ℕ)) × AreLinesOf text on × Obeys on old new
 
--- the commands on these lines were accepted, in order, or those before the line of a fault, which is what ends the program
-abbrev pub IsCommandedBy : List (List ℕ) → Result (Unit {0}) SpeakerFault → SpeakerState → SpeakerState → Type 0
-IsCommandedBy on (Ok done) old new = Obeys on old new
-IsCommandedBy on (Err ends) old new = (fault : CommandsFault) × IsOfCommands fault ends × ObeysBefore on fault old new
+-- the commands on these lines of the path were accepted, in order, or those before the line of a fault, which is what ends the program
+abbrev pub IsCommandedBy : List ℕ → List (List ℕ) → Result (Unit {0}) SpeakerFault → SpeakerState → SpeakerState → Type 0
+IsCommandedBy path on (Ok done) old new = Obeys on old new
+IsCommandedBy path on (Err ends) old new = (fault : CommandsFault) × IsOfCommands path fault ends × ObeysBefore on fault old new
+
+-- the commands of the path stop for this, at a line of the text where that is known, or they can't be read
+abbrev pub IsStoppedIn : Option (List ℕ) → List ℕ → SpeakerState → SpeakerState → SpeakerFault → Type 0
+IsStoppedIn text path old new ends =
+    (fault : CommandsFault) × IsOfCommands path fault ends × ((octets : List ℕ) → text ≡ Some octets → ObeysBefore (lines octets) fault old new)
 
 -- turns at these moments, one after another, each of which went well
 abbrev pub TakeWell : List ℕ → Turns → Turns → Type 0

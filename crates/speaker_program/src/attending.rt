@@ -3,7 +3,8 @@ ghost use Rattle.std.specs.Prelude.{◌≡◌, Ok, None, IfErr, IfOk, OnOk, fals
 ghost use Rattle.std.specs.Fn.{FnOnceReturnsAt};
 ghost use Rattle.speaker_desk.specs.Restarts.{none_again};
 ghost use Rattle.speaker_program.specs.Begun.{AreOperatorsOf, AttendsOperators};
-ghost use Rattle.speaker_program.specs.Endings.{IsOfWords};
+ghost use Rattle.speaker_program.specs.Endings.{IsOfRun, IsOfTurns};
+ghost use Rattle.speaker_program.specs.declared.fault.SpeakerFault.TheVariants.{NoMemory};
 
 use crate::fault::SpeakerFault;
 use crate::waiting::{hold_back, wait_of};
@@ -47,7 +48,7 @@ pub(crate) fn attend_all<
 where
     D: FnOnce(&str) -> io::Result<P>,
     requires controls { D.IsAlwaysCallable controls }
-    ensures fault { IfErr result (λ fault. ¬ (IsOfWords fault)) }
+    ensures fault { IfErr result (IsOfRun settings.now) }
     ensures turns { OnOk result (AttendsOperators P.wish P.line P.turns P.hears (λ path there. FnOnceReturnsAt D.FnOnce controls path (Ok there)) settings.now turns (C.readings clock.old) (C.readings clock.new) served.old served.new) }
     ensures silent { N.writes journal.old ≡ false → output.new ≡ output.old }
 {
@@ -79,7 +80,7 @@ fn desk_at<'a>(
     exchange: &'a Exchange,
 ) -> Result<Desk<'a>, SpeakerFault>
     ensures desk { IfOk result (λ desk. desk ≡ record { remotes = remotes.now; waiting = gate; again = none_again; stopped = None }) }
-    ensures fault { IfErr result (λ fault. ¬ (IsOfWords fault)) }
+    ensures memory { IfErr result (λ fault. fault ≡ NoMemory) }
 {
     match Desk::new(alloc, remotes, gate, exchange) {
         Ok(desk) => Ok(desk),
@@ -97,7 +98,7 @@ where
     D: FnOnce(&str) -> io::Result<P>,
     requires { D.IsAlwaysCallable controls }
     ensures given { IfOk result (λ operators. AreOperatorsOf (λ path there. FnOnceReturnsAt D.FnOnce controls path (Ok there)) settings.now.control operators) }
-    ensures fault { IfErr result (λ fault. ¬ (IsOfWords fault)) }
+    ensures fault { IfErr result (IsOfRun settings.now) }
 {
     let Some(path) = &settings.control else {
         return Ok(None);
@@ -111,7 +112,7 @@ where
 // How turns with operators ended, to the program.
 fn of_attending(ended: Result<(), AttendFault>) -> Result<(), SpeakerFault>
     ensures well { OnOk result (ended ≡ Ok tt) }
-    ensures fault { IfErr result (λ fault. ¬ (IsOfWords fault)) }
+    ensures fault { IfErr result IsOfTurns }
 {
     match ended {
         Ok(()) => Ok(()),

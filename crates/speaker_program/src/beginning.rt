@@ -2,8 +2,8 @@
 ghost use Rattle.std.specs.Prelude.{◌≡◌, Ok, Err, Some, IfErr, IfOk, false};
 ghost use Rattle.std.specs.declared.io.Error.{Error as IoError};
 ghost use Rattle.std.specs.Fn.{FnReturnsAt};
-ghost use Rattle.speaker_program.specs.Endings.{IsOfWords};
-ghost use Rattle.speaker_program.specs.Commanded.{TextAt};
+ghost use Rattle.runs.specs.SpeakerState.{SpeakerState};
+ghost use Rattle.speaker_program.specs.Commanded.{IsSpeakerOf, TextAt};
 ghost use Rattle.speaker_program.specs.Begun.{IsBegun, StateFrom, is_watched, patience_of, with_remotes};
 ghost use Rattle.speaker_program.specs.Unbegun.{IsUnbegun};
 ghost use Rattle.speaker_program.specs.declared.fault.SpeakerFault.TheVariants.{Listen};
@@ -40,11 +40,12 @@ where
     M: Fn(&str) -> io::Result<L>,
     F: FnOnce(Option<SocketAddr>, bool) -> io::Result<W>,
     requires texts { M.IsAlwaysCallable texts.now }
-    requires opens { F.IsAlwaysCallable opens }
-    ensures fault { IfErr result (λ fault. ¬ (IsOfWords fault)) }
+    // The wire is opened only behind a speaker that has obeyed what the settings' files say.
+    requires opens { (speaker : SpeakerState) → IsSpeakerOf (TextAt (λ path lines. FnReturnsAt M.Fn texts.now path (Ok lines)) L.remaining) settings.now speaker → F.pre opens settings.now.listen (is_watched settings.now) }
     ensures begins { IfOk result (λ served. IsBegun (TextAt (λ path lines. FnReturnsAt M.Fn texts.now path (Ok lines)) L.remaining)
         (StateFrom (λ wire. F.post opens settings.now.listen (is_watched settings.now) (Ok wire)) W.state) settings.now served) }
-    ensures unbegun { IfErr result (IsUnbegun (λ path answer. FnReturnsAt M.Fn texts.now path answer) L.remaining (λ wire. F.post opens settings.now.listen (is_watched settings.now) wire) settings.now) }
+    ensures unbegun { IfErr result (IsUnbegun (TextAt (λ path lines. FnReturnsAt M.Fn texts.now path (Ok lines)) L.remaining)
+        (λ path error. FnReturnsAt M.Fn texts.now path (Err error)) (λ error. F.post opens settings.now.listen (is_watched settings.now) (Err error)) settings.now) }
     ensures silent { settings.now.log ≡ false → output.new ≡ output.old }
 {
     let said = said_of(rt.alloc(), settings, texts)?;
@@ -82,8 +83,7 @@ fn opened<W: Wire + Drop, F>(
 ) -> Result<W, SpeakerFault>
 where
     F: FnOnce(Option<SocketAddr>, bool) -> io::Result<W>,
-    requires { F.IsAlwaysCallable opens }
-    ensures fault { IfErr result (λ fault. ¬ (IsOfWords fault)) }
+    requires { F.pre opens listen log }
     ensures wire { IfOk result (λ wire. F.post opens listen log (Ok wire)) }
     ensures unopened { IfErr result (λ fault. (error : IoError) × (fault ≡ Listen listen error) × F.post opens listen log (Err error)) }
 {

@@ -1,12 +1,17 @@
 //! What the main of `ovbgpd` does.
 ghost use Rattle.clocks.specs.Moments.{moments_of};
-ghost use Rattle.std.specs.Prelude.{◌≡◌, [], ◌≤◌, ℕ, List, Vec, Ok, Some, IfOk, MatchResult};
+ghost use Rattle.std.specs.Prelude.{◌≡◌, ◌≢◌, [], ◌≤◌, ℕ, List, Vec, Ok, Err, Some, IfErr, IfOk, MatchResult, ⊤};
 ghost use Rattle.std.specs.Fn.{FnOnceReturnsAt, FnReturnsAt};
 ghost use Rattle.std.specs.Global.{Global as TheGlobal};
 ghost use Rattle.toml.specs.Data.{Members};
-ghost use Rattle.speaker_program.specs.Checked.{IsCheckedBy};
-ghost use Rattle.speaker_program.specs.Commanded.{TextAt};
-ghost use Rattle.speaker_program.specs.Endings.{EndsSo, IsOfWords, status_at_end};
+ghost use Rattle.speaker_program.specs.Checked.{IsCheckedBy, IsUncheckedBy};
+ghost use Rattle.speaker_program.specs.Exits.{exit_of_fault};
+ghost use Rattle.speaker_program.specs.Unbegun.{IsUnservedAt, IsUnservedBy};
+ghost use Rattle.speaker_program.specs.declared.fault.SpeakerFault.{SpeakerFault as TheFault};
+ghost use Rattle.program_endings.specs.Exits.{status_of};
+ghost use Rattle.runs.specs.SpeakerState.{SpeakerState};
+ghost use Rattle.speaker_program.specs.Commanded.{IsSpeakerOf, TextAt};
+ghost use Rattle.speaker_program.specs.Endings.{EndsSo, IsEnded, IsOfWords, status_at_end};
 ghost use Rattle.program_endings.specs.Asides.{Asks};
 ghost use Rattle.program_endings.specs.declared.aside.Aside.{Aside};
 ghost use Rattle.std.specs.Result.{IsErrAnd};
@@ -17,7 +22,7 @@ ghost use Rattle.settings_keys.specs.Keys.{IsTableOf};
 ghost use Rattle.speaker_turns.specs.Turns.{Turns};
 ghost use Rattle.program_endings.specs.Words.{IsCall};
 ghost use Rattle.wires.specs.Wires.{nothing_told};
-ghost use Rattle.speaker_program.specs.Files.{AreOctetsAt, AreSettingsOf};
+ghost use Rattle.speaker_program.specs.Files.{AreOctetsAt, AreSettingsOf, IsGiven};
 
 use crate::checking::answer;
 use crate::fault::SpeakerFault;
@@ -69,6 +74,9 @@ where
     // Where they are to be checked, it is 0 only where a file that was opened at their path tells settings, and the exceptions
     // and the commands of files that were opened at theirs leave a speaker of them with just their slots.
     ensures checks { (aside : Aside) → Asks words.now aside → result ≡ 0 → IsCheckedBy P.opened aside }
+    // Any other status is that of a fault for which, by what was opened and what wasn't, settings aren't served well, or don't pass a check.
+    ensures fails { ((aside : Aside) → ¬ (Asks words.now aside)) → result ≢ 0 → (fault : TheFault) × (result ≡ status_of (exit_of_fault fault)) × IsEnded (IsUnservedBy P.opened P.refused ⊤) words.now fault }
+    ensures unchecked { (aside : Aside) → Asks words.now aside → result ≢ 0 → (fault : TheFault) × (result ≡ status_of (exit_of_fault fault)) × IsUncheckedBy P.opened P.refused aside fault }
 {
     match aside_of(words) {
         None => main_serving::<B, _, _, _, _>(rt, files, words, output, errors),
@@ -93,6 +101,7 @@ where
     ensures serves { result ≡ 0 → (path : List ℕ) × (turns : ℕ) × (settings : SpeakerSettings) × (instants : List ℕ) × (served : Turns)
         × IsCall words.now path turns × AreSettingsOf (AreOctetsAt P.opened path) settings
         × IsServed P.opened (λ wire. wire ≡ nothing_told settings.listen) AttendsSocket settings turns [] (moments_of instants) served × (served.counts.wire.listens ≡ settings.listen) }
+    ensures fails { result ≢ 0 → (fault : TheFault) × (result ≡ status_of (exit_of_fault fault)) × IsEnded (IsUnservedBy P.opened P.refused ⊤) words.now fault }
 {
     let mut clock = MonotonicClock::new(rt);
     let served = serve_words::<B, _, _, _, _>(rt, files, words, output, &mut clock);
@@ -126,6 +135,7 @@ where
     ensures serves { IfOk result (λ served. (path : List ℕ) × (turns : ℕ) × (settings : SpeakerSettings)
         × IsCall words.now path turns × AreSettingsOf (AreOctetsAt P.opened path) settings
         × IsServed P.opened (λ wire. wire ≡ nothing_told settings.listen) AttendsSocket settings turns (C.readings clock.old) (C.readings clock.new) served × (served.counts.wire.listens ≡ settings.listen)) }
+    ensures fails { IfErr result (IsEnded (IsUnservedBy P.opened P.refused (C.readings clock.new ≡ C.readings clock.old)) words.now) }
 {
     run_bgp(
         rt,
@@ -199,11 +209,10 @@ where
     E: FnOnce(SocketAddr) -> io::Result<Q>,
     requires reads { S.IsAlwaysCallable reads }
     requires texts { M.IsAlwaysCallable texts.now }
-    requires opens { F.IsAlwaysCallable opens }
+    requires opens { (settings : SpeakerSettings) (speaker : SpeakerState) → IsSpeakerOf (TextAt (λ path lines. FnReturnsAt M.Fn texts.now path (Ok lines)) L.remaining) settings speaker → F.pre opens settings.listen (is_watched settings) }
     requires controls { D.IsAlwaysCallable controls }
     requires scrapes { E.IsAlwaysCallable scrapes }
     ensures wrong { ((path : List ℕ) (turns : ℕ) → ¬ (IsCall words.now path turns)) → IsErrAnd result IsOfWords }
-    ensures right { (path : List ℕ) (turns : ℕ) → IsCall words.now path turns → ¬ (IsErrAnd result IsOfWords) }
     ensures output { IsErrAnd result IsOfWords → output.new ≡ output.old }
     // The speaker of the settings that the file of the words tells has obeyed just the exceptions and then the commands of the files
     // of the settings, it was told their remotes, and has taken just the turns of the words over the wire that was opened where they listen.
@@ -212,6 +221,9 @@ where
         × IsServed (TextAt (λ path lines. FnReturnsAt M.Fn texts.now path (Ok lines)) L.remaining)
         (StateFrom (λ wire. F.post opens settings.listen (is_watched settings) (Ok wire)) W.state)
         (AttendsOperators P.wish P.line P.turns P.hears (λ path there. FnOnceReturnsAt D.FnOnce controls path (Ok there))) settings turns (C.readings clock.old) (C.readings clock.new) served) }
+    ensures fails { IfErr result (IsEnded (IsUnservedAt (TextAt (λ path lines. FnReturnsAt M.Fn texts.now path (Ok lines)) L.remaining) (λ path error. FnReturnsAt M.Fn texts.now path (Err error))
+        (λ path. IsGiven (λ octets. FnOnceReturnsAt S.FnOnce reads path (Ok octets))) (λ path error. FnOnceReturnsAt S.FnOnce reads path (Err error))
+        (λ settings error. F.post opens settings.listen (is_watched settings) (Err error)) (λ settings. StateFrom (λ wire. F.post opens settings.listen (is_watched settings) (Ok wire)) W.state) (C.readings clock.new ≡ C.readings clock.old)) words.now) }
 {
     let (path, turns) = call_of(words)?;
     let settings = read_settings(rt.alloc(), path, reads)?;

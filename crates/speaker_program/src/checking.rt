@@ -1,9 +1,12 @@
 //! What is answered besides serving.
-ghost use Rattle.std.specs.Prelude.{Ok, OnOk};
+ghost use Rattle.std.specs.Prelude.{◌≡◌, Ok, Err, IfErr, OnOk};
+ghost use Rattle.std.specs.declared.io.Error.{Error as IoError};
 ghost use Rattle.std.specs.Fn.{FnOnceReturnsAt, FnReturnsAt};
 ghost use Rattle.speaker_program.specs.Commanded.{TextAt};
-ghost use Rattle.speaker_program.specs.Checked.{IsChecked, IsCheckedBy};
-ghost use Rattle.speaker_program.specs.Files.{AreOctetsAt, IsGiven};
+ghost use Rattle.speaker_program.specs.Checked.{IsChecked, IsCheckedBy, IsUncheckedBy};
+ghost use Rattle.speaker_program.specs.Files.{AreOctetsAt, IsGiven, IsLost};
+ghost use Rattle.speaker_program.specs.Unbegun.{IsUnchecked};
+ghost use Rattle.speaker_program.specs.declared.fault.SpeakerFault.TheVariants.{Output as OutputFails};
 
 use crate::commanded_speaker::commanded;
 use crate::exceptions::said_of;
@@ -30,7 +33,8 @@ pub(crate) fn answer<B: Book<Global>, P: OpensFiles, O: Write>(
     aside: Aside<'_>,
     output: &mut O,
 ) -> Result<(), SpeakerFault>
-    ensures { OnOk result (IsCheckedBy P.opened aside.entry) }
+    ensures checked { OnOk result (IsCheckedBy P.opened aside.entry) }
+    ensures unchecked { IfErr result (IsUncheckedBy P.opened P.refused aside.entry) }
 {
     match aside {
         Aside::Help => print(HELP, output).map_err(SpeakerFault::Output),
@@ -46,7 +50,8 @@ fn check_files<B: Book<Global>, P: OpensFiles, O: Write>(
     path: &str,
     output: &mut O,
 ) -> Result<(), SpeakerFault>
-    ensures { OnOk result (IsChecked (AreOctetsAt P.opened) P.opened path.now) }
+    ensures checked { OnOk result (IsChecked (AreOctetsAt P.opened) P.opened path.now) }
+    ensures unchecked { IfErr result (IsUnchecked P.opened (IsLost P.opened P.refused) (AreOctetsAt P.opened) (IsLost P.opened P.refused) path.now) }
 {
     check::<B, _, _, _, _>(
         alloc,
@@ -70,8 +75,10 @@ where
     M: Fn(&str) -> io::Result<L>,
     requires reads { S.IsAlwaysCallable reads }
     requires texts { M.IsAlwaysCallable texts.now }
-    ensures { OnOk result (IsChecked (λ path. IsGiven (λ octets. FnOnceReturnsAt S.FnOnce reads path (Ok octets)))
+    ensures checked { OnOk result (IsChecked (λ path. IsGiven (λ octets. FnOnceReturnsAt S.FnOnce reads path (Ok octets)))
         (TextAt (λ path lines. FnReturnsAt M.Fn texts.now path (Ok lines)) L.remaining) path.now) }
+    ensures unchecked { IfErr result (IsUnchecked (TextAt (λ path lines. FnReturnsAt M.Fn texts.now path (Ok lines)) L.remaining) (λ path error. FnReturnsAt M.Fn texts.now path (Err error))
+        (λ path. IsGiven (λ octets. FnOnceReturnsAt S.FnOnce reads path (Ok octets))) (λ path error. FnOnceReturnsAt S.FnOnce reads path (Err error)) path.now) }
 {
     let settings = read_settings(alloc, path, reads)?;
     let said = said_of(alloc, &settings, texts)?;
@@ -86,7 +93,9 @@ fn tell_checked<O: Write>(
     said: &SlurmFile,
     conf: &Conf<Global>,
     output: &mut O,
-) -> Result<(), SpeakerFault> {
+) -> Result<(), SpeakerFault>
+    ensures { IfErr result (λ fault. (error : IoError) × (fault ≡ OutputFails error)) }
+{
     let asn = settings.asn.0;
     let peers = settings.peers.len();
     let commands = settings.commands.as_str();

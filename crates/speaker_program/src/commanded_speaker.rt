@@ -1,11 +1,11 @@
 //! The speaker of the settings, and their commands.
-ghost use Rattle.std.specs.Prelude.{◌≡◌, [], ℕ, List, Ok, Some, IfErr, IfOk, MatchOption, OnOk, string_bytes};
+ghost use Rattle.std.specs.Prelude.{◌≡◌, [], Ok, Err, IfErr, IfOk, MatchOption, OnOk, string_bytes};
 ghost use Rattle.std.specs.Fn.{FnReturnsAt};
 ghost use Rattle.file_paths.specs.OpenedFiles.{AreOctetsOf};
-ghost use Rattle.speaker_program.specs.Commanded.{IsCommanded, IsCommandedBy, ObeysText};
-ghost use Rattle.speaker_program.specs.Endings.{IsOfCommands, IsOfWords, IsUnread};
+ghost use Rattle.speaker_program.specs.Commanded.{IsCommanded, IsCommandedBy, IsStoppedIn, ObeysText, TextAt};
+ghost use Rattle.speaker_program.specs.Endings.{IsOfCommands, IsUnread};
 ghost use Rattle.runs.specs.SlotTimes.{usual_timers};
-ghost use Rattle.speaker_program.specs.Slots.{HasJust, is_configured};
+ghost use Rattle.speaker_program.specs.Slots.{HasJust, IsOtherSlot, is_configured};
 ghost use Rattle.speaker_program.specs.ToldConfig.{config_of, with_all_times};
 ghost use Rattle.speaker_program.specs.Unbegun.{IsStopped, IsUncommanded, IsUnmade};
 ghost use Rattle.scenario.specs.FileLines.{lines};
@@ -35,11 +35,10 @@ pub(crate) fn commanded<B: Book<Global>, L: BufRead + Drop, M>(
 where
     M: Fn(&str) -> io::Result<L>,
     requires { M.IsAlwaysCallable texts.now }
-    ensures fault { IfErr result (λ fault. ¬ (IsOfWords fault)) }
     ensures slots { IfOk result (HasJust settings.now.peers.items) }
     ensures commands { IfOk result (λ speaker. (lines : L) × FnReturnsAt M.Fn texts.now (string_bytes settings.now.commands) (Ok lines)
         × IsCommanded said.now.exceptions (L.remaining lines) (config_of settings.now) speaker) }
-    ensures uncommanded { IfErr result (IsUncommanded (λ path answer. FnReturnsAt M.Fn texts.now path answer) L.remaining settings.now said.now.exceptions) }
+    ensures uncommanded { IfErr result (IsUncommanded (TextAt (λ path lines. FnReturnsAt M.Fn texts.now path (Ok lines)) L.remaining) (λ path error. FnReturnsAt M.Fn texts.now path (Err error)) settings.now said.now.exceptions) }
 {
     let mut speaker = made(alloc, config_of(settings))?;
     except(alloc, settings, said, &mut speaker)?;
@@ -74,7 +73,6 @@ fn timers_of(told: &[(u8, PeerTimers)]) -> SlotTimers
 
 // A speaker that has obeyed no command.
 fn made<B: Book<Global>>(alloc: Global, config: Config) -> Result<Speaker<Global, B>, SpeakerFault>
-    ensures fault { IfErr result (λ fault. ¬ (IsOfWords fault)) }
     ensures agrees { IfOk result (λ speaker. Agrees config [] speaker) }
     ensures unmade { IfErr result (IsUnmade config) }
 {
@@ -94,10 +92,9 @@ fn command<B: Book<Global>, L: BufRead + Drop, M>(
 where
     M: Fn(&str) -> io::Result<L>,
     requires { M.IsAlwaysCallable texts.now }
-    ensures fault { IfErr result (λ fault. ¬ (IsOfWords fault)) }
     ensures slots { OnOk result (HasJust settings.now.peers.items speaker.new) }
     ensures commands { OnOk result ((lines : L) × FnReturnsAt M.Fn texts.now (string_bytes settings.now.commands) (Ok lines) × ObeysText (L.remaining lines) speaker.old speaker.new) }
-    ensures stopped { IfErr result (IsStopped (λ path answer. FnReturnsAt M.Fn texts.now path answer) L.remaining settings.now speaker.old speaker.new) }
+    ensures stopped { IfErr result (IsStopped (TextAt (λ path lines. FnReturnsAt M.Fn texts.now path (Ok lines)) L.remaining) (λ path error. FnReturnsAt M.Fn texts.now path (Err error)) settings.now speaker.old speaker.new) }
 {
     let path = settings.commands.as_str();
     let lines = lines_at(alloc, path, texts)?;
@@ -116,8 +113,7 @@ fn command_from<B: Book<Global>, R: BufRead + Drop>(
     reader: R,
     speaker: &mut Speaker<Global, B>,
 ) -> Result<(), SpeakerFault>
-    ensures fault { IfErr result (λ fault. ¬ (IsOfWords fault)) }
-    ensures each { (text : List ℕ) → R.remaining reader ≡ Some text → IsCommandedBy (lines text) result speaker.old speaker.new }
+    ensures stops { IfErr result (IsStoppedIn (R.remaining reader) path.now speaker.old speaker.new) }
     ensures obeys { OnOk result (ObeysText (R.remaining reader) speaker.old speaker.new) }
 {
     let text = text_of(alloc, path, reader)?;
@@ -127,7 +123,7 @@ fn command_from<B: Book<Global>, R: BufRead + Drop>(
 // The text that a reader of this path has.
 fn text_of<R: BufRead + Drop>(alloc: Global, path: &str, reader: R) -> Result<Vec<u8>, SpeakerFault>
     ensures text { IfOk result (λ text. AreOctetsOf (R.remaining reader) text.items) }
-    ensures fault { IfErr result IsUnread }
+    ensures unread { IfErr result (IsUnread path.now) }
 {
     match octets_of(alloc, reader) {
         Ok(text) => Ok(text),
@@ -136,7 +132,7 @@ fn text_of<R: BufRead + Drop>(alloc: Global, path: &str, reader: R) -> Result<Ve
 }
 
 fn unread(alloc: Global, path: &str, why: CommandsFault) -> SpeakerFault
-    ensures { IsOfCommands why result }
+    ensures commands { IsOfCommands path.now why result }
 {
     SpeakerFault::bad_commands(alloc, path, Unobeyed::unread(why))
 }
@@ -148,8 +144,7 @@ fn obey_text<B: Book<Global>>(
     text: &[u8],
     speaker: &mut Speaker<Global, B>,
 ) -> Result<(), SpeakerFault>
-    ensures fault { IfErr result (λ fault. ¬ (IsOfWords fault)) }
-    ensures obeys { IsCommandedBy (lines text.now) result speaker.old speaker.new }
+    ensures obeys { IsCommandedBy path.now (lines text.now) result speaker.old speaker.new }
 {
     match obey_lines(alloc, text, speaker) {
         Ok(()) => Ok(()),
@@ -165,7 +160,7 @@ fn other_slot<B: Book<Global>>(
     speaker: &Speaker<Global, B>,
     peers: &[(u8, SocketAddr)],
 ) -> Option<u8>
-    ensures { MatchOption result (HasJust peers.now speaker.now) (λ slot. ¬ (HasJust peers.now speaker.now)) }
+    ensures { MatchOption result (HasJust peers.now speaker.now) (IsOtherSlot peers.now speaker.now) }
 {
     for slot in 0..PEER_SLOTS {
         if is_configured(speaker, slot) != has_slot(peers, slot) {

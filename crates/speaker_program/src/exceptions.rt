@@ -1,12 +1,12 @@
 //! The local exceptions of the settings.
-ghost use Rattle.std.specs.Prelude.{◌≡◌, Ok, IfErr, IfOk, false};
+ghost use Rattle.std.specs.Prelude.{◌≡◌, Ok, Err, IfErr, IfOk, false};
 ghost use Rattle.std.specs.Fn.{FnReturnsAt};
 ghost use Rattle.file_paths.specs.OpenedFiles.{AreOctetsOf};
 ghost use Rattle.slurm_files.specs.SlurmDocument.{nothing_said};
 ghost use Rattle.slurm_files.specs.declared.fault.SlurmFault.{SlurmFault as SpecFault};
 ghost use Rattle.speaker_exceptions.specs.declared.fault.ExceptionsFault.TheVariants.{Slurm};
 ghost use Rattle.speaker_program.specs.Commanded.{AreSaidOf, IsSaidAt, IsSaidIn, TextAt};
-ghost use Rattle.speaker_program.specs.Endings.{IsOfExceptions, IsOfWords};
+ghost use Rattle.speaker_program.specs.Endings.{IsOfExceptions};
 ghost use Rattle.speaker_program.specs.Unbegun.{IsExceptedBy, IsFaultIn, IsUnopenedAt, IsUnreadAt, IsUnsaid, IsUnsaidAt, slurm_path};
 ghost use Rattle.speaker_program.specs.declared.fault.SpeakerFault.TheVariants.{NoMemory};
 
@@ -31,9 +31,8 @@ pub(crate) fn said_of<L: BufRead + Drop, M>(
 where
     M: Fn(&str) -> io::Result<L>,
     requires { M.IsAlwaysCallable texts.now }
-    ensures fault { IfErr result (λ fault. ¬ (IsOfWords fault)) }
     ensures said { IfOk result (AreSaidOf (TextAt (λ path lines. FnReturnsAt M.Fn texts.now path (Ok lines)) L.remaining) settings.now.slurm) }
-    ensures unsaid { IfErr result (IsUnsaid (λ path answer. FnReturnsAt M.Fn texts.now path answer) L.remaining settings.now.slurm) }
+    ensures unsaid { IfErr result (IsUnsaid (TextAt (λ path lines. FnReturnsAt M.Fn texts.now path (Ok lines)) L.remaining) (λ path error. FnReturnsAt M.Fn texts.now path (Err error)) settings.now.slurm) }
 {
     let Some(path) = &settings.slurm else {
         return nothing_said(alloc);
@@ -43,7 +42,6 @@ where
 
 // That nothing is said.
 fn nothing_said(alloc: Global) -> Result<SlurmFile, SpeakerFault>
-    ensures fault { IfErr result (λ fault. ¬ (IsOfWords fault)) }
     ensures nothing { IfOk result (λ said. said ≡ nothing_said) }
     ensures memory { IfErr result (λ fault. fault ≡ NoMemory) }
 {
@@ -62,9 +60,8 @@ fn said_at<L: BufRead + Drop, M>(
 where
     M: Fn(&str) -> io::Result<L>,
     requires { M.IsAlwaysCallable texts.now }
-    ensures fault { IfErr result (λ fault. ¬ (IsOfWords fault)) }
     ensures said { IfOk result (IsSaidAt (TextAt (λ path lines. FnReturnsAt M.Fn texts.now path (Ok lines)) L.remaining) path.now) }
-    ensures unsaid { IfErr result (IsUnsaidAt (λ path answer. FnReturnsAt M.Fn texts.now path answer) L.remaining path.now) }
+    ensures unsaid { IfErr result (IsUnsaidAt (TextAt (λ path lines. FnReturnsAt M.Fn texts.now path (Ok lines)) L.remaining) (λ path error. FnReturnsAt M.Fn texts.now path (Err error)) path.now) }
 {
     let octets = octets_at(alloc, path, texts)?;
     said_in(alloc, path, octets.as_slice())
@@ -79,9 +76,8 @@ fn octets_at<L: BufRead + Drop, M>(
 where
     M: Fn(&str) -> io::Result<L>,
     requires { M.IsAlwaysCallable texts.now }
-    ensures fault { IfErr result (λ fault. ¬ (IsOfWords fault)) }
     ensures octets { IfOk result (λ octets. (lines : L) × FnReturnsAt M.Fn texts.now path.now (Ok lines) × AreOctetsOf (L.remaining lines) octets.items) }
-    ensures unread { IfErr result (IsUnreadAt (λ path answer. FnReturnsAt M.Fn texts.now path answer) path.now) }
+    ensures unread { IfErr result (IsUnreadAt (TextAt (λ path lines. FnReturnsAt M.Fn texts.now path (Ok lines)) L.remaining) (λ path error. FnReturnsAt M.Fn texts.now path (Err error)) path.now) }
 {
     let lines = lines_at(alloc, path, texts)?;
     match octets_of(alloc, lines) {
@@ -99,9 +95,8 @@ pub(crate) fn lines_at<L: BufRead + Drop, M>(
 where
     M: Fn(&str) -> io::Result<L>,
     requires { M.IsAlwaysCallable texts.now }
-    ensures fault { IfErr result (λ fault. ¬ (IsOfWords fault)) }
     ensures given { IfOk result (λ lines. FnReturnsAt M.Fn texts.now path.now (Ok lines)) }
-    ensures unopened { IfErr result (IsUnopenedAt (λ path answer. FnReturnsAt M.Fn texts.now path answer) path.now) }
+    ensures unopened { IfErr result (IsUnopenedAt (λ path error. FnReturnsAt M.Fn texts.now path (Err error)) path.now) }
 {
     match texts(path) {
         Ok(lines) => Ok(lines),
@@ -111,7 +106,6 @@ where
 
 // What the SLURM file of this path and these octets says.
 fn said_in(alloc: Global, path: &str, octets: &[u8]) -> Result<SlurmFile, SpeakerFault>
-    ensures fault { IfErr result (λ fault. ¬ (IsOfWords fault)) }
     ensures said { IfOk result (IsSaidIn octets.now) }
     ensures faulty { IfErr result (λ fault. (why : SpecFault) × IsFaultIn octets.now why × IsOfExceptions path.now (Slurm why) fault) }
 {
@@ -123,7 +117,6 @@ fn said_in(alloc: Global, path: &str, octets: &[u8]) -> Result<SlurmFile, Speake
 
 fn bad_file(alloc: Global, path: &str, fault: SlurmFault) -> SpeakerFault
     ensures exceptions { IsOfExceptions path.now (Slurm fault) result }
-    ensures other { ¬ (IsOfWords result) }
 {
     SpeakerFault::bad_exceptions(alloc, path, ExceptionsFault::Slurm(fault))
 }
@@ -135,7 +128,6 @@ pub(crate) fn except<B: Book<Global>>(
     said: &SlurmFile,
     speaker: &mut Speaker<Global, B>,
 ) -> Result<(), SpeakerFault>
-    ensures fault { IfErr result (λ fault. ¬ (IsOfWords fault)) }
     ensures obeys { IsExceptedBy (slurm_path settings.now.slurm) said.now.exceptions result speaker.old speaker.new }
 {
     match obey_exceptions(&said.exceptions, speaker) {

@@ -1,6 +1,6 @@
 //! What ends the program of a speaker.
 ghost use Rattle.std.specs.Prelude.{◌≡◌};
-ghost use Rattle.speaker_program.specs.Endings.{IsOfCommands, IsOfExceptions, IsOfFile, IsOfSlot, IsOfWords};
+ghost use Rattle.speaker_program.specs.Endings.{IsOfCommands, IsOfExceptions, IsOfFile, IsOfSettings, IsOfSlot};
 ghost use Rattle.speaker_program.specs.Exits.{exit_of_fault};
 ghost use Rattle.speaker_program.specs.declared.fault.SpeakerFault.TheVariants.{NoMemory, Turn};
 
@@ -117,7 +117,6 @@ impl SpeakerFault {
     /// A file that can't be read.
     pub(crate) fn unread(alloc: Global, path: &str, error: io::Error) -> SpeakerFault
         ensures file { IsOfFile path.now error result }
-        ensures other { ¬ (IsOfWords result) }
     {
         let path = FilePath::of(alloc, path);
         SpeakerFault::File { path, error }
@@ -125,7 +124,7 @@ impl SpeakerFault {
 
     /// Settings that are refused.
     pub(crate) fn bad_settings(alloc: Global, path: &str, why: SettingsFault) -> SpeakerFault
-        ensures { ¬ (IsOfWords result) }
+        ensures settings { IsOfSettings path.now why result }
     {
         let path = FilePath::of(alloc, path);
         SpeakerFault::Settings { path, why }
@@ -133,7 +132,7 @@ impl SpeakerFault {
 
     /// Commands that can't be obeyed.
     pub(crate) fn bad_commands(alloc: Global, path: &str, why: Unobeyed) -> SpeakerFault
-        ensures { IsOfCommands why.why result }
+        ensures commands { IsOfCommands path.now why.why result }
     {
         let path = FilePath::of(alloc, path);
         SpeakerFault::Commands { path, why }
@@ -142,7 +141,6 @@ impl SpeakerFault {
     /// Exceptions that can't be obeyed.
     pub(crate) fn bad_exceptions(alloc: Global, path: &str, why: ExceptionsFault) -> SpeakerFault
         ensures exceptions { IsOfExceptions path.now why result }
-        ensures other { ¬ (IsOfWords result) }
     {
         let path = FilePath::of(alloc, path);
         SpeakerFault::Exceptions { path, why }
@@ -151,7 +149,6 @@ impl SpeakerFault {
     /// A slot with a peer and no table, or a table and no peer.
     pub(crate) fn bad_slot(alloc: Global, path: &str, slot: u8) -> SpeakerFault
         ensures slot { IsOfSlot path.now slot result }
-        ensures other { ¬ (IsOfWords result) }
     {
         let path = FilePath::of(alloc, path);
         SpeakerFault::Slot { path, slot }

@@ -1,6 +1,6 @@
 //! The log of the turns, and the figures of scrapers.
 ghost use Rattle.std.specs.Prelude.{◌≡◌, IfErr, IfOk, false};
-ghost use Rattle.speaker_program.specs.Endings.{IsOfWords};
+ghost use Rattle.speaker_program.specs.declared.fault.SpeakerFault.TheVariants.{NoMemory};
 
 use crate::behind::Behind;
 use crate::fault::SpeakerFault;
@@ -51,7 +51,7 @@ impl<'a, S: Scrapers + Drop> LoopJournal<'a, S> {
         output: &mut O,
     ) -> Result<LoopJournal<'a, S>, SpeakerFault>
         ensures on { IfOk result (λ journal. journal.journal.is_on ≡ settings.now.log) }
-        ensures fault { IfErr result (λ fault. ¬ (IsOfWords fault)) }
+        ensures memory { IfErr result (λ fault. fault ≡ NoMemory) }
         ensures quiet { settings.now.log ≡ false → output.new ≡ output.old }
     {
         let peers = settings.peers.as_slice();

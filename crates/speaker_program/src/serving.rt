@@ -1,9 +1,13 @@
 //! The turns of the settings.
-ghost use Rattle.std.specs.Prelude.{◌≡◌, Ok, IfErr, IfOk, OnOk, false};
+ghost use Rattle.std.specs.Prelude.{◌≡◌, Ok, Err, IfErr, IfOk, OnOk, false};
 ghost use Rattle.std.specs.Fn.{FnOnceReturnsAt, FnReturnsAt};
-ghost use Rattle.speaker_program.specs.Commanded.{TextAt};
-ghost use Rattle.speaker_program.specs.Endings.{IsOfWords};
+ghost use Rattle.runs.specs.SpeakerState.{SpeakerState};
+ghost use Rattle.speaker_program.specs.Commanded.{IsSpeakerOf, TextAt};
+ghost use Rattle.speaker_program.specs.Endings.{IsOfRun};
 ghost use Rattle.speaker_program.specs.HeldBack.{waits};
+ghost use Rattle.speaker_program.specs.declared.fault.SpeakerFault.TheVariants.{Output as OutputFails};
+ghost use Rattle.std.specs.declared.io.Error.{Error as IoError};
+ghost use Rattle.speaker_program.specs.Unbegun.{IsUnserved};
 ghost use Rattle.speaker_program.specs.Begun.{AttendsOperators, IsServed, StateFrom, TakesTurnsOf, has_commands, is_watched};
 
 use crate::attending::attend_all;
@@ -59,13 +63,14 @@ where
     D: FnOnce(&str) -> io::Result<P>,
     E: FnOnce(SocketAddr) -> io::Result<Q>,
     requires texts { M.IsAlwaysCallable texts.now }
-    requires opens { F.IsAlwaysCallable opens }
+    requires opens { (speaker : SpeakerState) → IsSpeakerOf (TextAt (λ path lines. FnReturnsAt M.Fn texts.now path (Ok lines)) L.remaining) settings.now speaker → F.pre opens settings.now.listen (is_watched settings.now) }
     requires controls { D.IsAlwaysCallable controls }
     requires scrapes { E.IsAlwaysCallable scrapes }
-    ensures fault { IfErr result (λ fault. ¬ (IsOfWords fault)) }
     ensures serves { IfOk result (λ served. IsServed (TextAt (λ path lines. FnReturnsAt M.Fn texts.now path (Ok lines)) L.remaining)
         (StateFrom (λ wire. F.post opens settings.now.listen (is_watched settings.now) (Ok wire)) W.state)
         (AttendsOperators P.wish P.line P.turns P.hears (λ path there. FnOnceReturnsAt D.FnOnce controls path (Ok there))) settings.now turns (C.readings clock.old) (C.readings clock.new) served) }
+    ensures unserved { IfErr result (IsUnserved (TextAt (λ path lines. FnReturnsAt M.Fn texts.now path (Ok lines)) L.remaining) (λ path error. FnReturnsAt M.Fn texts.now path (Err error))
+        (λ error. F.post opens settings.now.listen (is_watched settings.now) (Err error)) (StateFrom (λ wire. F.post opens settings.now.listen (is_watched settings.now) (Ok wire)) W.state) (C.readings clock.new ≡ C.readings clock.old) settings.now) }
 {
     let mut served = begin(rt, settings, output, texts, opens)?;
     match serve_and_show(
@@ -109,7 +114,7 @@ where
     E: FnOnce(SocketAddr) -> io::Result<Q>,
     requires controls { D.IsAlwaysCallable controls }
     requires scrapes { E.IsAlwaysCallable scrapes }
-    ensures fault { IfErr result (λ fault. ¬ (IsOfWords fault)) }
+    ensures fault { IfErr result (IsOfRun settings.now) }
     ensures turns { OnOk result (TakesTurnsOf (AttendsOperators P.wish P.line P.turns P.hears (λ path there. FnOnceReturnsAt D.FnOnce controls path (Ok there))) (has_commands settings.now) settings.now turns (C.readings clock.old) (C.readings clock.new) served.old served.new) }
 {
     serve_turns(
@@ -123,7 +128,7 @@ fn show_routes<B: Book<Global>, W: Wire + Drop, O: Write>(
     served: &SpeakerLoop<W, Global, B>,
     output: &mut O,
 ) -> Result<(), SpeakerFault>
-    ensures { IfErr result (λ fault. ¬ (IsOfWords fault)) }
+    ensures { IfErr result (λ fault. (error : IoError) × (fault ≡ OutputFails error)) }
 {
     show(served.speaker(), Table::Rib, output).map_err(SpeakerFault::Output)?;
     output.flush().map_err(SpeakerFault::Output)
@@ -156,7 +161,7 @@ where
     E: FnOnce(SocketAddr) -> io::Result<Q>,
     requires controls { D.IsAlwaysCallable controls }
     requires scrapes { E.IsAlwaysCallable scrapes }
-    ensures fault { IfErr result (λ fault. ¬ (IsOfWords fault)) }
+    ensures fault { IfErr result (IsOfRun settings.now) }
     ensures turns { OnOk result (TakesTurnsOf (AttendsOperators P.wish P.line P.turns P.hears (λ path there. FnOnceReturnsAt D.FnOnce controls path (Ok there))) (has_commands settings.now) settings.now turns (C.readings clock.old) (C.readings clock.new) served.old served.new) }
     ensures quiet { settings.now.log ≡ false → output.new ≡ output.old }
 {
@@ -202,7 +207,7 @@ fn watch_of<Q: Scrapers + Drop, E>(
 where
     E: FnOnce(SocketAddr) -> io::Result<Q>,
     requires { E.IsAlwaysCallable scrapes }
-    ensures fault { IfErr result (λ fault. ¬ (IsOfWords fault)) }
+    ensures fault { IfErr result (IsOfRun settings.now) }
 {
     let Some(address) = settings.metrics else {
         return Ok(Watch::new(None));

@@ -2,7 +2,7 @@
 ghost use Rattle.std.specs.Prelude.{◌≡◌, ◌∷◌, Ok, IfErr, IfOk, OnErr, false};
 ghost use Rattle.clocks.specs.Moments.{IsNotBefore};
 ghost use Rattle.speaker_program.specs.Commanded.{TakesSoMany};
-ghost use Rattle.speaker_program.specs.Endings.{IsOfWords};
+ghost use Rattle.speaker_program.specs.Endings.{IsOfTurns};
 
 use crate::fault::SpeakerFault;
 use clocks::SecondsClock;
@@ -32,7 +32,7 @@ pub(crate) fn take_turns<
     journal: &mut N,
     output: &mut O,
 ) -> Result<(), SpeakerFault>
-    ensures fault { IfErr result (λ fault. ¬ (IsOfWords fault)) }
+    ensures fault { IfErr result IsOfTurns }
     ensures turns { TakesSoMany turns result (C.readings clock.old) (C.readings clock.new) served.old served.new }
     ensures silent { N.writes journal.old ≡ false → output.new ≡ output.old }
 {
@@ -47,7 +47,7 @@ pub(crate) fn take_turns<
 
 // The moment.
 fn read_clock<C: SecondsClock>(clock: &mut C) -> Result<u64, SpeakerFault>
-    ensures fault { IfErr result (λ fault. ¬ (IsOfWords fault)) }
+    ensures fault { IfErr result IsOfTurns }
     ensures told { IfOk result (λ now. C.readings clock.new ≡ now ∷ C.readings clock.old) }
     ensures forward { IfOk result (λ now. IsNotBefore now (C.readings clock.old)) }
     ensures failed { OnErr result (C.readings clock.new ≡ C.readings clock.old) }

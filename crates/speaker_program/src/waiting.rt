@@ -1,7 +1,7 @@
 //! Peers that wait for the payloads of the cache.
 ghost use Rattle.std.specs.Prelude.{◌≡◌, IfErr, IfOk, OnOk};
-ghost use Rattle.speaker_program.specs.Endings.{IsOfWords};
 ghost use Rattle.speaker_program.specs.HeldBack.{AreHeldBack, HeldBelow, HoldsBack, is_started, wait_until, waits};
+ghost use Rattle.speaker_program.specs.declared.fault.SpeakerFault.TheVariants.{NoMemory};
 
 use crate::fault::SpeakerFault;
 use bgp_conf::{Command, PEER_SLOTS};
@@ -36,7 +36,7 @@ pub(crate) fn hold_back<W: Wire + Drop, B: Book<Global>>(
     settings: &SpeakerSettings,
     served: &mut SpeakerLoop<W, Global, B>,
 ) -> Result<Vec<u8>, SpeakerFault>
-    ensures fault { IfErr result (λ fault. ¬ (IsOfWords fault)) }
+    ensures memory { IfErr result (λ fault. fault ≡ NoMemory) }
     ensures held { IfOk result (λ slots. AreHeldBack (waits settings.now) slots.items served.old served.new) }
 {
     if !waits(settings) {

@@ -2,12 +2,8 @@ use Rattle.std.proofs.Common.{Global, List, Option, ℕ, ◌∙◌, ap, inl, inr
 use Rattle.slurm_files.specs.SlurmDocument.{Said}
 use Rattle.speaker_program.specs.Commanded.{IsSaidIn}
 use Rattle.speaker_program.specs.Unbegun.{IsFaultIn}
-use Rattle.speaker_program.proofs.OtherFaults.{other_fault}
 use Rattle.speaker_program.proofs.ServedWords.{if_err_as, if_err_so, if_ok_as}
 use Rattle.speaker_program.proofs.exceptions.said_at.Goals as goal
-
-pub returns-in_err-octets-clause-fault : goal.returns-in_err-octets-clause-fault
-returns-in_err-octets-clause-fault g c = other_fault c.from_residual.result c.in_err-octets.field-0.0 c.from_residual.ensures.1 c.in_err-octets.ensures.fault
 
 pub returns-in_err-octets-clause-unsaid : goal.returns-in_err-octets-clause-unsaid
 returns-in_err-octets-clause-unsaid g c = if_err_as _ c.from_residual.result c.in_err-octets.field-0.0 c.from_residual.ensures.1 (inl c.in_err-octets.ensures.unread)

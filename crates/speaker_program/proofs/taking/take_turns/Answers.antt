@@ -1,4 +1,5 @@
-use Rattle.std.proofs.Common.{◌∙◌}
+use Rattle.std.proofs.Common.{◌∙◌, inr, refl}
+use Rattle.speaker_program.proofs.ServedWords.{if_err_as}
 use Rattle.speaker_program.proofs.TakenTurns.{clock_fails, one_more, turn_fails}
 use Rattle.speaker_program.proofs.taking.take_turns.Goals as goal
 
@@ -17,3 +18,9 @@ returns-in_err-turn-clause-turns g c =
 pub returns-in_err-now-clause-turns : goal.returns-in_err-now-clause-turns
 returns-in_err-now-clause-turns g c =
     clock_fails _ c.loop.counter c.args.turns c.from_residual.result _ _ _ _ _ c.from_residual.ensures.1 c.loop-test.true c.in_err-now.ensures.failed c.loop.invariant.0
+
+pub returns-in_err-now-clause-fault : goal.returns-in_err-now-clause-fault
+returns-in_err-now-clause-fault g c = if_err_as _ c.from_residual.result c.in_err-now.field-0.0 c.from_residual.ensures.1 c.in_err-now.ensures.fault
+
+pub returns-in_err-turn-clause-fault : goal.returns-in_err-turn-clause-fault
+returns-in_err-turn-clause-fault g c = if_err_as _ c.from_residual-in_err-turn.result _ c.from_residual-in_err-turn.ensures.1 (inr (c.in_err-turn.field-0.0, refl))
