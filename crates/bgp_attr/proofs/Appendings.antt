@@ -1,4 +1,4 @@
-use Rattle.std.proofs.Common.{◌≡◌, ◌≤◌, ◌<◌, ◌+◌, ◌*◌, ◌-◌, ◌/◌, ◌%◌, ℕ, zero, suc, Bool, true, false, List, [], ◌∷◌, ◌++◌, length, get_or, drop, replicate, arith, refl, sym, ap, subst, ◌∙◌, append_assoc, append-nil, length-append, length-drop}
+use Rattle.std.proofs.Common.{◌≡◌, ◌≤◌, ◌<◌, ◌+◌, ◌*◌, ◌-◌, ◌/◌, ◌%◌, ℕ, zero, suc, Bool, true, false, List, [], ◌∷◌, ◌++◌, length, get_or, drop, replicate, arith, refl, sym, ap, subst, ◌∙◌, append_assoc, append-nil, length-append, length-drop, slice_index_or}
 use Rattle.std.proofs.lemmas.List.{length-replicate}
 use Rattle.std.specs.Int.{to_be_bytes, w32}
 use Rattle.net_prefix.specs.declared.asn.Asn.{Asn}
@@ -119,6 +119,12 @@ pub part_stops : (old out whole : List ℕ) (first : Bool) (e : ℕ × List ℕ)
 part_stops old out whole first e s t is same long =
     stops old out (unknown_spelling first (e ∷ t)) whole (length (unknown_in_part first e)) (sym (ap (λ (u : Unknown). out ++ unknown_spelling first u) is) ∙ same)
     (omega (arith, length-append (unknown_in_part first e) (unknown_spelling first t))) long
+
+-- the first of what is still to come is too long
+pub first_stops : (old out whole : List ℕ) (first : Bool) (e : ℕ × List ℕ) (s : Unknown) → 1 ≤ length s → e ≡ slice_index_or s 0 e → out ++ unknown_spelling first s ≡ old ++ whole
+    → 4096 < length out + length (unknown_in_part first e) → 4096 < length old + length whole
+first_stops old out whole first e [] some is same long = absurd (omega (arith, some))
+first_stops old out whole first e (x ∷ t) some is same long = part_stops old out whole first e (x ∷ t) t (ap (λ y. y ∷ t) (sym is)) same long
 
 -- what is still to come has the next type
 pub type_in_rest : (attrs : PathAttributes) (among : List AttributeType) (i : ℕ) (other : AttributeType) → i < length among → length (type_spelling attrs (get_or among i other)) ≤ length (flat_map (type_spelling attrs) (drop i among))

@@ -8,17 +8,17 @@ use Rattle.std.proofs.lemmas.Map.Lookups.{exact_unsigned}
 use Rattle.std.proofs.lemmas.Option.{same_Some}
 use Rattle.std.specs.BTreeMap.{is_at, insert_entry}
 use Rattle.std.specs.Cmp.{nat_cmp_is}
-use Rattle.std.specs.List.{AllByRecursion, IsDistinct, find, list_any}
+use Rattle.std.specs.List.{AllByRecursion, IsDistinct, find, insert, list_any}
 use Rattle.std.specs.List.Sorted.{IsStrictlySortedBy}
 use Rattle.std.specs.Map.{keys_of, lookup}
 use Rattle.std.specs.Option.{option_and_then, option_or}
 use Rattle.std.specs.Ordering.{is_eq, match_ordering, nat_cmp, ordering_reverse}
-use Rattle.std.specs.Prelude.{◌==◌, nat_eq}
+use Rattle.std.specs.Prelude.{◌==◌, nat_eq, slice_set, suc}
 use Rattle.std.specs.declared.cmp.Ordering.{Ordering}
 use Rattle.std.specs.declared.cmp.Ordering.TheVariants.{Less, Equal, Greater}
 use Rattle.bgp_attr.specs.AttributeTable.{is_passed_on}
 use Rattle.bgp_attr.specs.ReceivedAttributes.{Attribute}
-use Rattle.bgp_attr.specs.UnknownAttributes.{ArePassedOn, SpellsUnknown, Unknown, is_kept, kept_behind, kept_of, kept_value, unknown_in, with_kept}
+use Rattle.bgp_attr.specs.UnknownAttributes.{ArePassedOn, SpellsUnknown, has_code, place_of, Unknown, is_kept, kept_behind, kept_of, kept_value, unknown_in, with_kept}
 use Rattle.bgp_attr.proofs.EntryLists.{equal_from, length-insert_entry, lookup-insert_entry, some-insert_entry, sorted-insert_entry}
 
 -- Which unknown attributes are kept.
@@ -209,3 +209,29 @@ none_behind es (a ∷ more) none = none_if (is_kept a) es a more none (λ behind
 
 pub no_unknown : (attributes : List Attribute) → list_any (λ x. is_kept x) attributes ≡ false → unknown_in attributes ≡ []
 no_unknown attributes none = none_behind [] attributes none
+
+-- ---- at its place
+
+set_if : (k : ℕ) (v : List ℕ) (e : ℕ × List ℕ) (es : Unknown) (r : Ordering) → nat_cmp k e.0 ≡ r → has_code (e ∷ es) (match_ordering r 0 0 (suc (place_of k es))) k ≡ true
+    → (has_code es (place_of k es) k ≡ true → slice_set es (place_of k es) (k, v) ≡ insert_entry nat_cmp es k v)
+    → slice_set (e ∷ es) (match_ordering r 0 0 (suc (place_of k es))) (k, v) ≡ match_ordering r ((k, v) ∷ e ∷ es) ((e.0, v) ∷ es) (e ∷ insert_entry nat_cmp es k v)
+set_if k v e es Less is has more = let no : false ≡ true = sym (ap is_eq is) ∙ has in absurd cc
+set_if k v e es Equal is has more = ap (λ c. (c, v) ∷ es) (exact_unsigned k e.0 is)
+set_if k v e es Greater is has more = ap (λ t. e ∷ t) (more has)
+
+-- where that at the place of a code has the code, it takes the value
+pub set_at_place : (k : ℕ) (v : List ℕ) (es : Unknown) → has_code es (place_of k es) k ≡ true → slice_set es (place_of k es) (k, v) ≡ insert_entry nat_cmp es k v
+set_at_place k v [] has = absurd cc
+set_at_place k v (e ∷ es) has = set_if k v e es (nat_cmp k e.0) refl has (set_at_place k v es)
+
+insert_if : (k : ℕ) (v : List ℕ) (e : ℕ × List ℕ) (es : Unknown) (r : Ordering) → nat_cmp k e.0 ≡ r → has_code (e ∷ es) (match_ordering r 0 0 (suc (place_of k es))) k ≡ false
+    → (has_code es (place_of k es) k ≡ false → insert es (place_of k es) (k, v) ≡ insert_entry nat_cmp es k v)
+    → insert (e ∷ es) (match_ordering r 0 0 (suc (place_of k es))) (k, v) ≡ match_ordering r ((k, v) ∷ e ∷ es) ((e.0, v) ∷ es) (e ∷ insert_entry nat_cmp es k v)
+insert_if k v e es Less is has more = refl
+insert_if k v e es Equal is has more = let no : true ≡ false = sym (ap is_eq is) ∙ has in absurd cc
+insert_if k v e es Greater is has more = ap (λ t. e ∷ t) (more has)
+
+-- and where it doesn't, the attribute comes there
+pub insert_at_place : (k : ℕ) (v : List ℕ) (es : Unknown) → has_code es (place_of k es) k ≡ false → insert es (place_of k es) (k, v) ≡ insert_entry nat_cmp es k v
+insert_at_place k v [] has = refl
+insert_at_place k v (e ∷ es) has = insert_if k v e es (nat_cmp k e.0) refl has (insert_at_place k v es)

@@ -1,11 +1,11 @@
 -- The attributes that this speaker does not know and passes on (RFC 4271 section 5).
-use Rattle.std.specs.Prelude.{◌≡◌, ◌≤◌, ℕ, Bool, true, ◌==◌, ◌&&◌, if◌then◌else◌, List, [], ◌∷◌, length, bit_and, Option, Some, None}
+use Rattle.std.specs.Prelude.{◌≡◌, ◌≤◌, ℕ, suc, Bool, true, false, ◌==◌, ◌&&◌, if◌then◌else◌, List, [], ◌∷◌, length, bit_and, slice_get, Option, Some, None}
 use Rattle.std.specs.BTreeMap.{insert_entry, is_at}
 use Rattle.std.specs.List.{AllByRecursion, find}
 use Rattle.std.specs.List.Sorted.{IsStrictlySortedBy}
 use Rattle.std.specs.Map.{keys_of, lookup}
-use Rattle.std.specs.Option.{option_and_then}
-use Rattle.std.specs.Ordering.{nat_cmp}
+use Rattle.std.specs.Option.{option_and_then, option_map_or}
+use Rattle.std.specs.Ordering.{match_ordering, nat_cmp}
 use Rattle.bgp_attr.specs.AttributeTable.{is_passed_on}
 use Rattle.bgp_attr.specs.ReceivedAttributes.{Attribute}
 
@@ -52,3 +52,12 @@ unknown_in attributes = kept_behind [] attributes
 abbrev pub unknown_or_none : Option Unknown → Unknown
 unknown_or_none None = []
 unknown_or_none (Some unknown) = unknown
+
+-- how many of them, from the first on, have a code below this one
+abbrev pub place_of : ℕ → Unknown → ℕ
+place_of code [] = 0
+place_of code (e ∷ es) = match_ordering (nat_cmp code e.0) 0 0 (suc (place_of code es))
+
+-- that at a place has this code
+abbrev pub has_code : Unknown → ℕ → ℕ → Bool
+has_code unknown place code = option_map_or (λ e. is_at (nat_cmp code) e.0) (slice_get unknown place) false

@@ -86,7 +86,8 @@ fn read_segments<A: Allocator + Clone>(
 ) -> Result<Option<Vec<Segment<A>, A>>, AllocError>
     ensures { IfOk result (λ segments. option_map path_items segments ≡ path_at octets.now) }
 {
-    let mut segments = Vec::new(alloc.clone()?);
+    // Most paths are one segment: room for no more is taken at first.
+    let mut segments = Vec::with_capacity(alloc.clone()?, octets.len().min(1))?;
     let mut rest = octets;
     while !rest.is_empty() {
         let Some((segment, behind)) = split_segment(rest) else {

@@ -1,52 +1,56 @@
 //! Attributes that this speaker does not know and passes on (RFC 4271 section 5).
 ghost use Rattle.std.specs.Prelude.{◌≡◌, [], true, ◌≤◌, length, OnOk, OnErr, IfOk};
-ghost use Rattle.std.specs.BTreeMap.{insert_entry, is_at};
+ghost use Rattle.std.specs.BTreeMap.{insert_entry};
 ghost use Rattle.std.specs.Iterator.{YieldsFirstBy, item_count};
-ghost use Rattle.std.specs.Map.{lookup};
-ghost use Rattle.std.specs.Option.{option_copied};
 ghost use Rattle.std.specs.Ordering.{nat_cmp};
 ghost use Rattle.bgp_attr.specs.AttributeTable.{is_passed_on};
-ghost use Rattle.bgp_attr.specs.UnknownAttributes.{ArePassedOn};
+ghost use Rattle.bgp_attr.specs.UnknownAttributes.{ArePassedOn, has_code, place_of};
 
 use std::alloc::{AllocError, Allocator, Global};
-use std::collections::{BTreeMap, btree_map};
+use std::cmp::Ordering;
 use std::marker::Model;
 
-// The value of an attribute.
+/// An attribute: its code and its value.
 #[derive(Drop)]
-pub(crate) struct Value<A: Allocator> {
-    octets: Vec<u8, A>,
+pub(crate) struct Unknown<A: Allocator> {
+    code: u8,
+    value: Vec<u8, A>,
 }
 
-impl<A: Allocator> Model for Value<A> {
+impl<A: Allocator> Model for Unknown<A> {
     ghost use Rattle.std.specs.Prelude.{List, ℕ};
 
-    ghost Value = { List ℕ };
+    ghost Value = { ℕ × List ℕ };
 
-    ghost view = { λ v. v.octets.items };
+    ghost view = { λ a. (a.code, a.value.items) };
 }
 
-impl<A: Allocator> Value<A> {
-    fn of(alloc: A, octets: &[u8]) -> Result<Self, AllocError>
-        ensures { IfOk result (λ value. value ≡ octets.now) }
+impl<A: Allocator> Unknown<A> {
+    fn of(alloc: A, code: u8, value: &[u8]) -> Result<Self, AllocError>
+        ensures { IfOk result (λ attribute. attribute ≡ (code, value.now)) }
     {
-        Ok(Value {
-            octets: Vec::from_slice(alloc, octets)?,
-        })
+        let value = Vec::from_slice(alloc, value)?;
+        Ok(Unknown { code, value })
     }
 
-    pub(crate) fn as_slice(&self) -> &[u8]
-        ensures { result.now ≡ self.now }
+    pub(crate) fn code(&self) -> u8
+        ensures { result ≡ self.now.0 }
     {
-        self.octets.as_slice()
+        self.code
+    }
+
+    pub(crate) fn value(&self) -> &[u8]
+        ensures { result.now ≡ self.now.1 }
+    {
+        self.value.as_slice()
     }
 }
 
-/// The unknown attributes of a route that are passed on: their values by their codes, in rising order.
+/// The unknown attributes of a route that are passed on, in rising order of their codes. There are few, mostly one.
 #[derive(Drop)]
 pub struct UnknownAttributes<A: Allocator = Global> {
     alloc: A,
-    pub(crate) values: BTreeMap<u8, Value<A>, A>,
+    pub(crate) attributes: Vec<Unknown<A>, A>,
 }
 
 impl<A: Allocator> Model for UnknownAttributes<A> {
@@ -54,17 +58,17 @@ impl<A: Allocator> Model for UnknownAttributes<A> {
 
     ghost Value = { Unknown };
 
-    ghost view = { λ u. u.values.entries };
+    ghost view = { λ u. u.attributes.items };
 
-    ghost invariant = { λ u. ArePassedOn u.values.entries };
+    ghost invariant = { λ u. ArePassedOn u.attributes.items };
 }
 
 impl<A: Allocator + Clone> UnknownAttributes<A> {
     pub(crate) fn new(alloc: A) -> Result<Self, AllocError>
         ensures { IfOk result (λ unknown. unknown ≡ []) }
     {
-        let values = BTreeMap::new(alloc.clone()?);
-        Ok(UnknownAttributes { alloc, values })
+        let attributes = Vec::new(alloc.clone()?);
+        Ok(UnknownAttributes { alloc, attributes })
     }
 
     // Keeps the value of an attribute with this code.
@@ -73,11 +77,44 @@ impl<A: Allocator + Clone> UnknownAttributes<A> {
         requires short { length value.now ≤ 65535 }
         ensures { OnOk result (self.new ≡ insert_entry nat_cmp self.old code value.now) }
     {
-        let value = Value::of(self.alloc.clone()?, value)?;
-        match self.values.insert(code, value) {
-            Ok(_) => Ok(()),
-            Err(_) => Err(AllocError),
+        let attribute = Unknown::of(self.alloc.clone()?, code, value)?;
+        let at = place_of(&self.attributes, code);
+        if has_code(&self.attributes, at, code) {
+            self.attributes[at] = attribute;
+            return Ok(());
         }
+        self.attributes.reserve_exact(1)?;
+        let Ok(()) = self.attributes.insert(at, attribute) else {
+            return Err(AllocError);
+        };
+        Ok(())
+    }
+}
+
+// How many of them, from the first on, have a code below this one.
+fn place_of<A: Allocator>(attributes: &[Unknown<A>], code: u8) -> usize
+    ensures place { result ≡ place_of code attributes.now }
+    ensures within { result ≤ length attributes.now }
+{
+    let mut place = 0;
+    let mut rest = attributes;
+    while let [attribute, behind @ ..] = rest {
+        match code.cmp(&attribute.code) {
+            Ordering::Greater => place += 1,
+            _ => return place,
+        }
+        rest = behind;
+    }
+    place
+}
+
+// Whether that at a place has this code.
+fn has_code<A: Allocator>(attributes: &[Unknown<A>], place: usize, code: u8) -> bool
+    ensures { result ≡ has_code attributes.now place code }
+{
+    match attributes.get(place) {
+        Some(attribute) => code.cmp(&attribute.code).is_eq(),
+        None => false,
     }
 }
 
@@ -87,18 +124,8 @@ impl<A: Allocator> UnknownAttributes<A> {
         ensures value { result.now ≡ self.now }
         ensures lawful { ArePassedOn self.now }
     {
-        let _ = &self.values;
+        let _ = &self.attributes;
         self
-    }
-
-    /// The value of the attribute with this code.
-    pub fn value(&self, code: u8) -> Option<&[u8]>
-        ensures { option_copied result ≡ lookup (is_at (nat_cmp code)) self.now }
-    {
-        match self.values.get(&code) {
-            Some(value) => Some(value.as_slice()),
-            None => None,
-        }
     }
 
     /// The codes with their values, in rising order of the codes.
@@ -106,7 +133,7 @@ impl<A: Allocator> UnknownAttributes<A> {
         ensures { result ≡ self.now }
     {
         UnknownValues {
-            rest: self.values.iter(),
+            rest: self.attributes.as_slice(),
         }
     }
 }
@@ -114,7 +141,7 @@ impl<A: Allocator> UnknownAttributes<A> {
 /// Codes with their values, in rising order of the codes. It is seen as those still to come.
 #[derive(Drop)]
 pub struct UnknownValues<'a, A: Allocator = Global> {
-    rest: btree_map::Iter<'a, u8, Value<A>>,
+    rest: &'a [Unknown<A>],
 }
 
 impl<'a, A: Allocator> Model for UnknownValues<'a, A> {
@@ -122,7 +149,7 @@ impl<'a, A: Allocator> Model for UnknownValues<'a, A> {
 
     ghost Value = { Unknown };
 
-    ghost view = { λ v. v.rest };
+    ghost view = { λ v. v.rest.now };
 }
 
 impl<'a, A: Allocator> Iterator for UnknownValues<'a, A> {
@@ -133,9 +160,10 @@ impl<'a, A: Allocator> Iterator for UnknownValues<'a, A> {
     ghost remaining = { item_count (λ rest. rest) };
 
     fn next(&mut self) -> Option<(u8, &'a [u8])> {
-        match self.rest.next() {
-            Some((code, value)) => Some((*code, value.as_slice())),
-            None => None,
-        }
+        let [attribute, behind @ ..] = self.rest else {
+            return None;
+        };
+        self.rest = behind;
+        Some((attribute.code(), attribute.value()))
     }
 }

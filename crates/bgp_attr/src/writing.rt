@@ -199,10 +199,12 @@ fn append_part<A: Allocator>(
 ) -> bool
     ensures { Appends result out.old.items out.new.items (unknown_spelling first unknown.now) }
 {
-    for (code, value) in &unknown.values {
-        if !append_in_part(first, *code, value.as_slice(), out) {
+    let mut rest = unknown.attributes.as_slice();
+    while let [attribute, behind @ ..] = rest {
+        if !append_in_part(first, attribute.code(), attribute.value(), out) {
             return false;
         }
+        rest = behind;
     }
     true
 }

@@ -2,8 +2,8 @@
 //! The octets that come and go are in scripts.
 
 use bgp_attr::{
-    Aggregator, AsPath, AttributeType, Attrs, Class, Origin, PeerKind, SegmentKind, UpdateFault,
-    neighbor_as, origin_as, read_attrs,
+    Aggregator, AsPath, AttributeType, Attrs, Class, Origin, PeerKind, SegmentKind, UnknownValues,
+    UpdateFault, neighbor_as, origin_as, read_attrs,
 };
 use net_prefix::Asn;
 use std::alloc::Global;
@@ -71,10 +71,16 @@ fn has_unknown(attrs: &Attrs) -> bool {
     let Some(unknown) = attrs.unknown() else {
         return false;
     };
-    unknown.value(0) == Some([9].as_slice())
-        && unknown.value(99) == Some([7, 8].as_slice())
-        && unknown.value(100).is_none()
-        && unknown.value(17).is_none()
+    let mut values = unknown.iter();
+    is_next(&mut values, 0, &[9]) && is_next(&mut values, 99, &[7, 8]) && values.next().is_none()
+}
+
+// Whether the next of the values is this one.
+fn is_next(values: &mut UnknownValues<'_>, code: u8, octets: &[u8]) -> bool {
+    match values.next() {
+        Some((next, value)) => next == code && value == octets,
+        None => false,
+    }
 }
 
 // Whether all of them are read from a peer of this kind, with this LOCAL_PREF.

@@ -1,8 +1,9 @@
-use Rattle.std.proofs.Common.{◌≡◌, ◌++◌}
+use Rattle.std.proofs.Common.{◌≡◌, ◌++◌, length}
 use Rattle.bgp_attr.specs.AttributeSpelling.{unknown_spelling}
 use Rattle.bgp_attr.proofs.writing.append_part.Given as goal
 
-abbrev pub invariant-loop-code : goal.invariant-loop-code
-invariant-loop-code g l =
-    (goal.iterator-loop-code g).can_next l.code-iterator × (goal.iterator-loop-code g).is_finite l.code-iterator
-    × (l.out.items ++ unknown_spelling l.first l.code-iterator ≡ l.fn.out.items ++ unknown_spelling l.first l.unknown)
+abbrev pub invariant-loop-rest : goal.invariant-loop-rest
+invariant-loop-rest g l = l.out.items ++ unknown_spelling l.first l.rest ≡ l.fn.out.items ++ unknown_spelling l.first l.unknown
+
+abbrev pub decreases-loop-rest : goal.decreases-loop-rest
+decreases-loop-rest g l = length l.rest
