@@ -45,7 +45,7 @@ impl<A: Allocator + Clone, B: Book<A>> Ribs<A, B> {
     pub fn new(alloc: A) -> Result<Self, AllocError>
         ensures { IfOk result (λ ribs. ribs ≡ started) }
     {
-        let adj_in = AdjIn::new(alloc.clone()?);
+        let adj_in = AdjIn::new(alloc.clone()?)?;
         let book = B::empty(alloc)?;
         Ok(Ribs {
             adj_in,

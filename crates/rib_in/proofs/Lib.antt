@@ -1,6 +1,8 @@
 pub mod Behind
+pub mod KeptRoutes
 pub mod Ordered
 pub mod RouteLists
+pub mod SlotPrefixes
 pub mod SlotWalks
 pub mod Tables
 pub mod Walks

@@ -2,3 +2,4 @@ pub mod LatestRoutes
 pub mod PrefixRoutes
 pub mod RibNumbers
 pub mod RoutesFall
+pub mod SlotPrefixes

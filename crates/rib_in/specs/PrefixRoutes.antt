@@ -1,5 +1,5 @@
--- The routes to one prefix: at least one, of slots that rise, and the marks by which those of a slot are found.
-use Rattle.std.specs.Prelude.{ℕ, ◌≡◌, ◌^◌, ◌<◌, ◌==◌, Bool, false, not, [], ◌∷◌, Option, Some, None, Box, filter, length, bit_or, nat_lt, if◌then◌else◌}
+-- The routes to one prefix: at least one, of slots that rise.
+use Rattle.std.specs.Prelude.{ℕ, ◌≡◌, ◌<◌, ◌==◌, Bool, false, not, [], ◌∷◌, Option, Some, None, Box, filter, length, if◌then◌else◌}
 use Rattle.std.specs.BTreeMap.{is_at, insert_entry}
 use Rattle.std.specs.List.Sorted.{IsStrictlySortedBy}
 use Rattle.std.specs.Map.{keys_of}
@@ -32,15 +32,6 @@ IsLeft slot old new = is_only slot old ≡ false → new ≡ others_of slot old
 abbrev pub with_first : RouteList → RouteList → RouteList
 with_first routes [] = routes
 with_first routes (e ∷ es) = insert_entry nat_cmp routes e.0 e.1
-
--- the mark of a slot: a bit for each of the first 64
-abbrev pub mark_of : ℕ → ℕ
-mark_of slot = if nat_lt slot 64 then 2 ^ slot else 0
-
--- the marks of the slots that have a route
-abbrev pub marks_of : RouteList → ℕ
-marks_of [] = 0
-marks_of (e ∷ es) = bit_or (mark_of e.0) (marks_of es)
 
 -- the routes of the higher slots
 abbrev pub higher_of : {A : Type 0} → Option (Box RouteList A) → RouteList

@@ -1,54 +1,63 @@
 //! The routes by prefix and slot.
-ghost use Rattle.std.specs.Prelude.{◌≡◌, [], ◌<◌, ℕ, None, Some, OnOk, OnErr, IfOk, IfSome, IfNone, IsSome, MatchBool, ◌==◌, false, if◌then◌else◌};
+ghost use Rattle.std.specs.Prelude.{◌≡◌, [], ℕ, None, Some, OnOk, OnErr, IfOk, IfSome, IfNone, IsSome, MatchBool, ◌==◌, false, if◌then◌else◌};
 ghost use Rattle.std.specs.List.Sorted.{IsStrictlySortedBy};
-ghost use Rattle.std.specs.Map.{keys_of, lookup};
+ghost use Rattle.std.specs.BTreeMap.{is_at};
+ghost use Rattle.std.specs.Map.{keys_of, lookup, set_value};
 ghost use Rattle.std.specs.Option.{option_copied, option_map, is_some};
-ghost use Rattle.std.specs.Ordering.{is_gt};
+ghost use Rattle.std.specs.Ordering.{is_gt, nat_cmp};
+ghost use Rattle.std.specs.declared.cmp.Ordering.TheVariants.{Less};
 ghost use Rattle.net_prefix.specs.PrefixOrder.{prefix_cmp, IsAbove};
 ghost use Rattle.net_prefix.specs.declared.prefix.Prefix.{Prefix};
 ghost use Rattle.prefix_trie.specs.TrieMap.{IsRising, found};
 ghost use Rattle.prefix_trie.specs.TrieWalks.{IsNext, all_after};
-ghost use Rattle.rib_in.specs.PrefixRoutes.{is_only};
-ghost use Rattle.rib_in.specs.LatestRoutes.{HasRoute, is_prefix, is_route, route_at, route_in, routes_of};
+ghost use Rattle.rib_in.specs.PrefixRoutes.{is_only, others_of, with_first};
+ghost use Rattle.rib_in.specs.LatestRoutes.{HasRoute, RouteList, is_prefix, is_route, route_at, route_in, routes_of, with_routes};
 
 use crate::fault::RibFault;
-use crate::prefix_routes::{MARKS, PrefixRoutes, mark};
+use crate::prefix_routes::PrefixRoutes;
+use crate::slot_prefixes::{SlotRoute, prefix_behind};
 use crate::slot_routes::SlotRoutes;
 use bgp_attr::Attrs;
 use net_prefix::Prefix;
-use prefix_trie::Trie;
-use std::alloc::{Allocator, Global};
+use std::alloc::{AllocError, Allocator, Global};
+use std::collections::{BTreeMap, BTreeSet};
 use std::marker::Model;
+use std::ops::Bound;
 use std::rc::Rc;
 
 /// The latest route of each slot and prefix.
 #[derive(Drop)]
 pub struct AdjIn<A: Allocator = Global> {
-    routes: Trie<PrefixRoutes<A>, A>,
-    // Of the routes to one prefix but the first. There is none where the allocator couldn't be cloned.
-    alloc: Option<A>,
+    routes: BTreeMap<Prefix, PrefixRoutes<A>, A>,
+    // To which prefixes each slot has a route.
+    slot_routes: BTreeSet<SlotRoute, A>,
+    // Of the routes to one prefix but the first.
+    alloc: A,
 }
 
 impl<A: Allocator> Model for AdjIn<A> {
-    ghost use Rattle.rib_in.specs.LatestRoutes.{RouteTable, HasNoEmptyList};
+    ghost use Rattle.rib_in.specs.LatestRoutes.{RouteTable};
+    ghost use Rattle.rib_in.specs.SlotPrefixes.{AreKept};
 
     ghost Value = { RouteTable };
 
-    ghost view = { λ t. t.routes };
+    ghost view = { λ t. t.routes.entries };
 
-    ghost invariant = { λ t. HasNoEmptyList t.routes };
+    ghost invariant = { λ t. AreKept t.routes.entries t.slot_routes };
 }
 
 impl<A: Allocator + Clone> AdjIn<A> {
-    /// No routes.
-    pub fn new(alloc: A) -> Self
-        ensures { result ≡ [] }
+    /// No routes. The error is an allocator that can't be cloned.
+    pub fn new(alloc: A) -> Result<Self, AllocError>
+        ensures { IfOk result (λ t. t ≡ []) }
     {
-        let more = alloc.clone().ok();
-        AdjIn {
-            routes: Trie::new(alloc),
-            alloc: more,
-        }
+        let routes = BTreeMap::new(alloc.clone()?);
+        let slot_routes = BTreeSet::new(alloc.clone()?);
+        Ok(AdjIn {
+            routes,
+            slot_routes,
+            alloc,
+        })
     }
 
     /// Whether some slot has a route to the prefix.
@@ -72,19 +81,54 @@ impl<A: Allocator + Clone> AdjIn<A> {
     {
         match self.has_route(slot, prefix) {
             Some(true) => {
-                self.routes
-                    .update(&prefix, |routes| routes.replace(slot, attrs));
+                replace_in(&mut self.routes, slot, prefix, attrs);
                 Ok(())
             }
-            Some(false) => {
-                let route = self.boxed(PrefixRoutes::one(slot, attrs))?;
-                self.routes.update(&prefix, |routes| routes.put(route));
-                Ok(())
+            Some(false) => self.announce_more(slot, prefix, attrs),
+            None => self.announce_first(slot, prefix, attrs),
+        }
+    }
+
+    // The slot's first route to a prefix to which others have one.
+    fn announce_more(
+        &mut self,
+        slot: u8,
+        prefix: Prefix,
+        attrs: Rc<Attrs<A>, A>,
+    ) -> Result<(), RibFault>
+        requires { IsSome (found self.old prefix) }
+        ensures ok { OnOk result ((s : ℕ) (p : Prefix) → route_at self.new s p ≡ (if is_route slot prefix s p then Some attrs.value else route_at self.old s p)) }
+        ensures err { OnErr result (self.new ≡ self.old) }
+    {
+        let route = self.boxed(PrefixRoutes::one(slot, attrs))?;
+        if self.slot_routes.insert(SlotRoute { slot, prefix }).is_err() {
+            return Err(RibFault::NoMemory);
+        }
+        put_in(&mut self.routes, prefix, route);
+        Ok(())
+    }
+
+    // The first route to a prefix.
+    fn announce_first(
+        &mut self,
+        slot: u8,
+        prefix: Prefix,
+        attrs: Rc<Attrs<A>, A>,
+    ) -> Result<(), RibFault>
+        requires { found self.old prefix ≡ None }
+        ensures ok { OnOk result ((s : ℕ) (p : Prefix) → route_at self.new s p ≡ (if is_route slot prefix s p then Some attrs.value else route_at self.old s p)) }
+        ensures err { OnErr result (self.new ≡ self.old) }
+    {
+        let place = SlotRoute { slot, prefix };
+        if self.slot_routes.insert(place).is_err() {
+            return Err(RibFault::NoMemory);
+        }
+        match self.routes.insert(prefix, PrefixRoutes::one(slot, attrs)) {
+            Ok(_) => Ok(()),
+            Err(_) => {
+                self.slot_routes.remove(&place);
+                Err(RibFault::NoMemory)
             }
-            None => match self.routes.insert(prefix, PrefixRoutes::one(slot, attrs)) {
-                Ok(_) => Ok(()),
-                Err(_) => Err(RibFault::NoMemory),
-            },
         }
     }
 
@@ -102,17 +146,13 @@ impl<A: Allocator + Clone> AdjIn<A> {
     fn boxed(&self, route: PrefixRoutes<A>) -> Result<Box<PrefixRoutes<A>, A>, RibFault>
         ensures { IfOk result (λ boxed. boxed.value ≡ route) }
     {
-        match self.memory() {
-            Some(alloc) => match Box::new(alloc, route) {
+        match self.alloc.clone() {
+            Ok(alloc) => match Box::new(alloc, route) {
                 Ok(boxed) => Ok(boxed),
                 Err(_) => Err(RibFault::NoMemory),
             },
-            None => Err(RibFault::NoMemory),
+            Err(_) => Err(RibFault::NoMemory),
         }
-    }
-
-    fn memory(&self) -> Option<A> {
-        self.alloc.as_ref()?.clone().ok()
     }
 
     /// The slot withdrew its route to the prefix.
@@ -122,10 +162,11 @@ impl<A: Allocator + Clone> AdjIn<A> {
         let Some(only) = self.is_only(slot, prefix) else {
             return;
         };
+        self.slot_routes.remove(&SlotRoute { slot, prefix });
         if only {
             self.routes.remove(&prefix);
         } else {
-            self.routes.update(&prefix, |routes| routes.withdraw(slot));
+            withdraw_in(&mut self.routes, slot, prefix);
         }
     }
 
@@ -169,41 +210,47 @@ impl<A: Allocator> AdjIn<A> {
         ensures least { IfSome result (λ p. (s : ℕ) (q : Prefix) → IsAbove after q → IsSome (route_at self.now s q) → is_gt (prefix_cmp p q) ≡ false) }
         ensures none { IfNone result ((s : ℕ) (q : Prefix) → IsAbove after q → route_at self.now s q ≡ None) }
     {
-        self.rises();
-        self.routes.after(after)
+        match after {
+            Some(prefix) => self.prefix_above(prefix),
+            None => self.first_prefix(),
+        }
     }
 
-    // The least prefix above the given one, or of all, to which a slot below 64 has a route: found through the marks.
-    fn marked_prefix_after(&self, slot: u8, after: Option<Prefix>) -> Option<Prefix>
-        requires { slot < 64 }
-        ensures has { IfSome result (λ p. IsSome (route_at self.now slot p)) }
-        ensures above { IfSome result (λ p. IsAbove after p) }
-        ensures least { IfSome result (λ p. (q : Prefix) → IsAbove after q → IsSome (route_at self.now slot q) → is_gt (prefix_cmp p q) ≡ false) }
-        ensures none { IfNone result ((q : Prefix) → IsAbove after q → route_at self.now slot q ≡ None) }
+    fn prefix_above(&self, after: Prefix) -> Option<Prefix>
+        ensures has { IfSome result (λ p. HasRoute self.now p) }
+        ensures above { IfSome result (λ p. prefix_cmp after p ≡ Less) }
+        ensures least { IfSome result (λ p. (s : ℕ) (q : Prefix) → prefix_cmp after q ≡ Less → IsSome (route_at self.now s q) → is_gt (prefix_cmp p q) ≡ false) }
+        ensures none { IfNone result ((s : ℕ) (q : Prefix) → prefix_cmp after q ≡ Less → route_at self.now s q ≡ None) }
     {
-        self.rises();
-        self.routes.marked_after(after, mark(slot))
+        let mut above = self
+            .routes
+            .range((Bound::Excluded(after), Bound::Unbounded));
+        match above.next() {
+            Some((prefix, _)) => Some(*prefix),
+            None => None,
+        }
     }
 
-    /// The least prefix above the given one, or of all, to which the slot has a route. That of a slot below 64 is found
-    /// through the marks, in time of the prefix's length.
+    fn first_prefix(&self) -> Option<Prefix>
+        ensures has { IfSome result (λ p. HasRoute self.now p) }
+        ensures least { IfSome result (λ p. (s : ℕ) (q : Prefix) → IsSome (route_at self.now s q) → is_gt (prefix_cmp p q) ≡ false) }
+        ensures none { IfNone result ((s : ℕ) (q : Prefix) → route_at self.now s q ≡ None) }
+    {
+        match self.routes.first_key_value() {
+            Some((prefix, _)) => Some(*prefix),
+            None => None,
+        }
+    }
+
+    /// The least prefix above the given one, or of all, to which the slot has a route. It is found without looking at
+    /// the routes of the other slots.
     pub fn slot_prefix_after(&self, slot: u8, after: Option<Prefix>) -> Option<Prefix>
         ensures has { IfSome result (λ p. IsSome (route_at self.now slot p)) }
         ensures above { IfSome result (λ p. IsAbove after p) }
         ensures least { IfSome result (λ p. (q : Prefix) → IsAbove after q → IsSome (route_at self.now slot q) → is_gt (prefix_cmp p q) ≡ false) }
         ensures none { IfNone result ((q : Prefix) → IsAbove after q → route_at self.now slot q ≡ None) }
     {
-        if slot < MARKS {
-            return self.marked_prefix_after(slot, after);
-        }
-        let mut last = after;
-        while let Some(prefix) = self.prefix_after(last) {
-            if self.get(slot, prefix).is_some() {
-                return Some(prefix);
-            }
-            last = Some(prefix);
-        }
-        None
+        prefix_behind(&self.slot_routes, slot, after)
     }
 
     /// The routes of a slot, in rising order of prefix.
@@ -241,4 +288,42 @@ impl<A: Allocator> AdjIn<A> {
     {
         self.routes.len();
     }
+}
+
+// The routes to each prefix, as a map by prefix.
+type Routes<A> = BTreeMap<Prefix, PrefixRoutes<A>, A>;
+
+// Replaces the slot's route among those to the prefix.
+fn replace_in<A: Allocator>(
+    routes: &mut Routes<A>,
+    slot: u8,
+    prefix: Prefix,
+    attrs: Rc<Attrs<A>, A>,
+)
+    ensures { (w : RouteList) → found routes.old.entries prefix ≡ Some w → routes.new.entries ≡ with_routes routes.old.entries prefix (set_value (is_at (nat_cmp slot)) w attrs.value) }
+{
+    let Some(routes) = routes.get_mut(&prefix) else {
+        return;
+    };
+    routes.replace(slot, attrs);
+}
+
+// Puts the first of some routes among those to the prefix.
+fn put_in<A: Allocator>(routes: &mut Routes<A>, prefix: Prefix, route: Box<PrefixRoutes<A>, A>)
+    ensures { (w : RouteList) → found routes.old.entries prefix ≡ Some w → routes.new.entries ≡ with_routes routes.old.entries prefix (with_first w route.value) }
+{
+    let Some(routes) = routes.get_mut(&prefix) else {
+        return;
+    };
+    routes.put(route);
+}
+
+// Takes the slot's route out of those to the prefix, where another slot has one to it.
+fn withdraw_in<A: Allocator>(routes: &mut Routes<A>, slot: u8, prefix: Prefix)
+    ensures { (w : RouteList) → found routes.old.entries prefix ≡ Some w → is_only slot w ≡ false → routes.new.entries ≡ with_routes routes.old.entries prefix (others_of slot w) }
+{
+    let Some(routes) = routes.get_mut(&prefix) else {
+        return;
+    };
+    routes.withdraw(slot);
 }

@@ -5,25 +5,14 @@ ghost use Rattle.std.specs.Map.{set_value};
 ghost use Rattle.std.specs.BTreeMap.{is_at};
 ghost use Rattle.std.specs.Ordering.{nat_cmp};
 ghost use Rattle.rib_in.specs.LatestRoutes.{route_in};
-ghost use Rattle.rib_in.specs.PrefixRoutes.{IsLeft, is_next_only, is_only, mark_of, marks_of, with_first};
+ghost use Rattle.rib_in.specs.PrefixRoutes.{IsLeft, is_next_only, is_only, with_first};
 
 use bgp_attr::Attrs;
-use prefix_trie::Marked;
 use std::alloc::Allocator;
 use std::cmp::Ordering;
 use std::marker::Model;
 use std::mem;
 use std::rc::Rc;
-
-// How many slots have a mark.
-pub(crate) const MARKS: u8 = 64;
-
-// The mark of a slot: a bit for each of the first 64.
-pub(crate) fn mark(slot: u8) -> u64
-    ensures { result ≡ mark_of slot }
-{
-    if slot < MARKS { 1 << slot } else { 0 }
-}
 
 /// The routes to one prefix, in rising order of slot: at least one.
 #[derive(Drop)]
@@ -152,27 +141,5 @@ impl<A: Allocator> PrefixRoutes<A> {
             Some(higher) => higher.is_only(slot),
             None => false,
         }
-    }
-
-    // The marks of the slots that have a route.
-    fn slots(&self) -> u64
-        ensures { result ≡ marks_of self.now }
-    {
-        match &self.higher {
-            Some(higher) => mark(self.slot) | higher.slots(),
-            None => mark(self.slot),
-        }
-    }
-}
-
-impl<A: Allocator> Marked for PrefixRoutes<A> {
-    ghost use Rattle.rib_in.specs.PrefixRoutes.{marks_of};
-
-    type Marks = u64;
-
-    ghost marks_of = { marks_of };
-
-    fn marks(&self) -> u64 {
-        self.slots()
     }
 }

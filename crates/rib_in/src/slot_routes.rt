@@ -10,8 +10,8 @@ use net_prefix::Prefix;
 use std::alloc::{Allocator, Global};
 use std::marker::Model;
 
-/// The routes of one slot, in rising order of prefix. It is seen as those still to come. Each of a slot below 64 is found
-/// through the marks, in time of the prefix's length.
+/// The routes of one slot, in rising order of prefix. It is seen as those still to come. Each is found without looking
+/// at the routes of the other slots.
 #[derive(Drop)]
 pub struct SlotRoutes<'a, A: Allocator = Global> {
     table: &'a AdjIn<A>,

@@ -47,10 +47,17 @@ fn announce_all(rt: &impl Abort, table: &mut AdjIn, attrs: &Rc<Attrs>, routes: &
     }
 }
 
+fn empty_table<A: Allocator + Clone>(rt: &impl Abort, alloc: A) -> AdjIn<A> {
+    match AdjIn::new(alloc) {
+        Ok(table) => table,
+        Err(_) => panic!(rt; "no memory"),
+    }
+}
+
 // The table of these routes, each a slot and a prefix.
 fn table_of(rt: &impl Abort, alloc: Global, routes: &[(u8, Prefix)]) -> AdjIn {
     let attrs = shared(rt, alloc);
-    let mut table = AdjIn::new(alloc);
+    let mut table = empty_table(rt, alloc);
     announce_all(rt, &mut table, &attrs, routes);
     table
 }
@@ -197,10 +204,10 @@ fn the_routes_of_a_slot_are_found(rt: HostRuntime) {
     assert!(rt; finds_routes(&mut table));
 }
 
-// Slots 64 and 255, and slot 0, which has a mark.
-const UNMARKED: [(u8, Prefix); 4] = [(64, LOW), (0, LOW), (255, LOW), (64, HIGH)];
+// Slots 64 and 255, which no peer has, and slot 0.
+const OF_ANY_SLOT: [(u8, Prefix); 4] = [(64, LOW), (0, LOW), (255, LOW), (64, HIGH)];
 
-fn has_routes_without_marks(table: &mut AdjIn) -> bool {
+fn has_routes_of_any_slot(table: &mut AdjIn) -> bool {
     let is_there = count_routes(table, 64) == 2 && has_routes(table, 0, &[LOW]);
     table.drop_slot(64);
     let is_gone = !has_route(table, 64, LOW) && !has_route(table, 64, HIGH);
@@ -210,9 +217,9 @@ fn has_routes_without_marks(table: &mut AdjIn) -> bool {
 }
 
 #[test]
-fn a_slot_without_a_mark_has_routes_too(rt: HostRuntime) {
-    let mut table = table_of(&rt, rt.alloc(), &UNMARKED);
-    assert!(rt; has_routes_without_marks(&mut table));
+fn a_slot_that_no_peer_has_has_routes_too(rt: HostRuntime) {
+    let mut table = table_of(&rt, rt.alloc(), &OF_ANY_SLOT);
+    assert!(rt; has_routes_of_any_slot(&mut table));
 }
 
 // Whether a route that was refused for want of memory isn't there, and so many others are.
@@ -275,7 +282,7 @@ fn take_out<A: Allocator + Clone>(rt: &impl Abort, table: &mut AdjIn<A>) {
 // Fills a table from one heap with routes from another. Answers how often a growth was refused.
 fn refusals_in<A: Allocator + Clone>(rt: &impl Abort, heap: A, ample: A) -> u32 {
     let attrs = shared(rt, ample);
-    fill(rt, &mut AdjIn::new(heap), &attrs)
+    fill(rt, &mut empty_table(rt, heap), &attrs)
 }
 
 #[test]
