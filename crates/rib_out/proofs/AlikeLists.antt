@@ -13,7 +13,7 @@ use Rattle.rib_out.specs.Alike.{alike, alike_cmp}
 use Rattle.rib_out.specs.Held.{is_prefix}
 use Rattle.rib_out.specs.declared.alike.Alike.{Alike as Entry}
 
-number_at : (a : ℕ) → nat_cmp a a ≡ Equal
+pub number_at : (a : ℕ) → nat_cmp a a ≡ Equal
 number_at a = grind (arith, nat_tests)
 
 -- what stands below another by two orders, one after the other, isn't above it by the first
@@ -22,7 +22,7 @@ low_case a b Less h = grind (arith, nat_tests)
 low_case a b Equal h = grind (arith, nat_tests)
 low_case a b Greater h = grind (arith, nat_tests)
 
-at_most_case : (a b : ℕ) (r : Ordering) → is_gt (ordering_then (nat_cmp a b) r) ≡ false → a ≤ b
+pub at_most_case : (a b : ℕ) (r : Ordering) → is_gt (ordering_then (nat_cmp a b) r) ≡ false → a ≤ b
 at_most_case a b Less h = grind (arith, nat_tests)
 at_most_case a b Equal h = grind (arith, nat_tests)
 at_most_case a b Greater h = grind (arith, nat_tests)
@@ -50,15 +50,15 @@ number_between e slot number after q same low high =
     omega arith
 
 -- the first of a slot stands at or above the least of all, and at or below each of the slot
-from_least : (a b : ℕ) (r : Ordering) → is_gt r ≡ false → a ≡ b → is_gt (ordering_then (nat_cmp a b) r) ≡ false
+pub from_least : (a b : ℕ) (r : Ordering) → is_gt r ≡ false → a ≡ b → is_gt (ordering_then (nat_cmp a b) r) ≡ false
 from_least a b r h same = rw (same, number_at b) h
 
-least_number : (n : ℕ) (r : Ordering) → is_gt r ≡ false → is_gt (ordering_then (nat_cmp 0 n) r) ≡ false
+pub least_number : (n : ℕ) (r : Ordering) → is_gt r ≡ false → is_gt (ordering_then (nat_cmp 0 n) r) ≡ false
 least_number n Less h = grind (arith, nat_tests)
 least_number n Equal h = grind (arith, nat_tests)
 least_number n Greater h = absurd cc
 
-least_prefix : (p q : Prefix) → p.bits ≡ 0 → p.len ≡ 0 → is_gt (prefix_cmp p q) ≡ false
+pub least_prefix : (p q : Prefix) → p.bits ≡ 0 → p.len ≡ 0 → is_gt (prefix_cmp p q) ≡ false
 least_prefix p q bits len = rw (bits, len) (least_number q.bits (nat_cmp 0 q.len) (grind (arith, nat_tests)))
 
 pub least_of_slot : (e : Entry) (slot : ℕ) (p : Prefix) → p.bits ≡ 0 → p.len ≡ 0 → e.slot ≡ slot → is_gt (alike_cmp (alike slot 0 p) e) ≡ false
@@ -69,7 +69,7 @@ pub slot_at_most : (e f : Entry) → is_gt (alike_cmp e f) ≡ false → e.slot 
 slot_at_most e f h = at_most_case e.slot f.slot (ordering_then (nat_cmp e.number f.number) (prefix_cmp e.prefix f.prefix)) h
 
 -- entries of two slots are two
-other_case : (a b : ℕ) (r : Ordering) → a ≢ b → is_eq (ordering_then (nat_cmp a b) r) ≡ false
+pub other_case : (a b : ℕ) (r : Ordering) → a ≢ b → is_eq (ordering_then (nat_cmp a b) r) ≡ false
 other_case a b Less h = grind (arith, nat_tests)
 other_case a b Equal h = grind (arith, nat_tests)
 other_case a b Greater h = grind (arith, nat_tests)

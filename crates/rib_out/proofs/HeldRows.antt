@@ -13,9 +13,18 @@ use Rattle.rib_out.specs.Held.{HeldRoute, IsRising, octets_of}
 use Rattle.rib_out.proofs.HeldTables.{keys_of-octets_of}
 
 -- a range without bounds is the whole table
-pub all_between : (table : List (Prefix × HeldRoute)) → entries_between prefix_cmp Unbounded Unbounded table ≡ table
+pub all_between : {V : Type 0} (table : List (Prefix × V)) → entries_between prefix_cmp Unbounded Unbounded table ≡ table
 all_between [] = refl
 all_between (e ∷ table) = ap (λ l. e ∷ l) (all_between table)
+
+kept_step : {V : Type 0} (b : Bool) (e : Prefix × V) (es fs : List (Prefix × V)) → es ≡ fs → cond (b && true) (e ∷ es) es ≡ cond b (e ∷ fs) fs
+kept_step true e es fs more = ap (λ l. e ∷ l) more
+kept_step false e es fs more = more
+
+-- one from behind a prefix on has what stands above it
+pub all_between-above : {V : Type 0} (p : Prefix) (table : List (Prefix × V)) → entries_between prefix_cmp (Excluded p) Unbounded table ≡ all_above p table
+all_between-above p [] = refl
+all_between-above p (e ∷ table) = kept_step (is_lt (prefix_cmp p e.0)) e (entries_between prefix_cmp (Excluded p) Unbounded table) (all_above p table) (all_between-above p table)
 
 abbrev between : Prefix → List (Prefix × HeldRoute) → List (Prefix × HeldRoute)
 between p table = entries_between prefix_cmp (Excluded p) Unbounded table

@@ -97,6 +97,6 @@ there_if_held table q held = sym (is_some_held table q) ∙ held
 pub none_held : (table : List (Prefix × HeldRoute)) (q : Prefix) → lookup (is_prefix q) table ≡ None → held_at table q ≡ None
 none_held table q none = ap (option_map (λ route. route.octets)) none
 
-pub is_found : (o : Option HeldRoute) (route : HeldRoute) → o ≡ Some route → IsSome o
+pub is_found : {X : Type 0} (o : Option X) (route : X) → o ≡ Some route → IsSome o
 is_found None route found = cc
 is_found (Some here) route found = refl

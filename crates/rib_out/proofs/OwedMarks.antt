@@ -1,54 +1,20 @@
 -- What waits of a prefix, by its marks.
-use Rattle.std.proofs.Common.{◌≡◌, ◌↔◌, ℕ, zero, suc, ◌^◌, ◌<◌, ◌==◌, ◌&&◌, ◌||◌, Bool, true, false, cond, not, IsTrue, None, Some, is_some, bit_and, refl, sym, ap, ◌∙◌, inl, inr, arith}
+use Rattle.std.proofs.Common.{◌≡◌, ◌↔◌, ℕ, zero, suc, ◌^◌, ◌<◌, ◌==◌, ◌&&◌, ◌||◌, Bool, true, false, cond, not, IsTrue, Option, None, Some, bit_and, refl, sym, ap, ◌∙◌, inl, inr, arith}
 use Rattle.std.proofs.lemmas.Bool.{cases_lt, eq-eqb, eqb-true}
-use Rattle.std.proofs.lemmas.Nat.Bits.{bit_at_above, bit_at_and, bit_at-lt, bit_at-zero, same_from_bits}
-use Rattle.prefix_trie.proofs.MarkBits.{meets_bit}
+use Rattle.std.proofs.lemmas.Nat.Bits.{bit_at_above, bit_at-lt, bit_at-zero, same_from_bits}
 use Rattle.std.specs.Int.{bit_at}
-use Rattle.rib_out.specs.Slots.{has_slot, share_slot}
-use Rattle.rib_out.specs.Waiting.{marks_meet, owed_by}
+use Rattle.rib_out.specs.Slots.{has_slot}
+use Rattle.rib_out.specs.Waiting.{owed_by}
+use Rattle.rib_out.specs.declared.marks.Owed.{Owed}
 use Rattle.rib_out.specs.declared.marks.Owed.TheVariants.{Withdrawal, Announcement}
 use Rattle.rib_out.specs.declared.waits.Waits.{Waits}
 use Rattle.rib_out.proofs.SlotBits.{apart_from_slots, slots_from_apart}
-
-none_shared : (slots : ℕ) → share_slot slots 0 ≡ false
-none_shared slots =
-    let none : bit_and slots 0 ≡ 0 = same_from_bits (bit_and slots 0) 0 (λ s. let both = bit_at_and slots 0 s in let zero = bit_at-zero s in omega arith) in
-    ap (λ n. not (n == 0)) none
-
-withdrawal_case : (x y : Bool) → IsTrue (x || false) ↔ (cond x (Some Withdrawal) (cond y (Some Announcement) None) ≡ Some Withdrawal)
-withdrawal_case true y = (λ _. refl, λ _. refl)
-withdrawal_case false true = (λ h. absurd cc, λ h. absurd cc)
-withdrawal_case false false = (λ h. absurd cc, λ h. absurd cc)
 
 announcement_case : (x y : Bool) → (x && y) ≡ false → IsTrue (false || y) ↔ (cond x (Some Withdrawal) (cond y (Some Announcement) None) ≡ Some Announcement)
 announcement_case true true h = absurd cc
 announcement_case true false h = (λ e. absurd cc, λ e. absurd cc)
 announcement_case false true h = (λ _. refl, λ _. refl)
 announcement_case false false h = (λ e. absurd cc, λ e. absurd cc)
-
-any_case : (x y : Bool) → (x || y) ≡ is_some (cond x (Some Withdrawal) (cond y (Some Announcement) None))
-any_case true y = refl
-any_case false true = refl
-any_case false false = refl
-
--- a withdrawal waits for a slot where the marks meet its mark for a withdrawal
-pub meets_withdrawal : (waits : Waits) (slot : ℕ) → IsTrue (marks_meet waits.marks (record { withdrawals = 2 ^ slot; announcements = 0 })) ↔ (owed_by waits slot ≡ Some Withdrawal)
-meets_withdrawal waits slot =
-    rw (meets_bit waits.marks.withdrawals slot, none_shared waits.marks.announcements)
-    (withdrawal_case (has_slot waits.marks.withdrawals slot) (has_slot waits.marks.announcements slot))
-
--- and so an announcement
-pub meets_announcement : (waits : Waits) (slot : ℕ) → IsTrue (marks_meet waits.marks (record { withdrawals = 0; announcements = 2 ^ slot })) ↔ (owed_by waits slot ≡ Some Announcement)
-meets_announcement waits slot =
-    rw (meets_bit waits.marks.announcements slot, none_shared waits.marks.withdrawals)
-    (announcement_case (has_slot waits.marks.withdrawals slot) (has_slot waits.marks.announcements slot)
-    (slots_from_apart waits.marks.withdrawals waits.marks.announcements slot waits.never_both))
-
--- and something where they meet either
-pub meets_either : (waits : Waits) (slot : ℕ) → marks_meet waits.marks (record { withdrawals = 2 ^ slot; announcements = 2 ^ slot }) ≡ is_some (owed_by waits slot)
-meets_either waits slot =
-    rw (meets_bit waits.marks.withdrawals slot, meets_bit waits.marks.announcements slot)
-    (any_case (has_slot waits.marks.withdrawals slot) (has_slot waits.marks.announcements slot))
 
 no_bit : (x : ℕ) → x < 2 → (x == 1) ≡ false → x ≡ 0
 no_bit zero small h = refl
@@ -69,6 +35,10 @@ neither_case : (x y : Bool) → cond x (Some Withdrawal) (cond y (Some Announcem
 neither_case true y h = absurd cc
 neither_case false true h = absurd cc
 neither_case false false h = (refl, refl)
+
+-- what has the same marks is the same for each slot
+pub same_marks : (a b : Waits) → a.marks.withdrawals ≡ b.marks.withdrawals → IsTrue (a.marks.announcements == b.marks.announcements) → (s : ℕ) → owed_by a s ≡ owed_by b s
+same_marks a b w h s = rw (w, eqb-true a.marks.announcements b.marks.announcements h) refl
 
 -- nothing waits for any slot just where no mark is set
 module _ (waits : Waits) where
@@ -123,3 +93,9 @@ pub announced_slots : (waits : Waits) (slot : ℕ) → IsTrue (has_slot waits.ma
 announced_slots waits slot =
     announcement_case (has_slot waits.marks.withdrawals slot) (has_slot waits.marks.announcements slot)
     (slots_from_apart waits.marks.withdrawals waits.marks.announcements slot waits.never_both)
+
+pub announced_of : {P : Type 0} (x y : Option Owed) → x ≡ y → P ↔ (y ≡ Some Announcement) → P ↔ (x ≡ Some Announcement)
+announced_of x y is h = (λ p. is ∙ h.0 p, λ e. h.1 (sym is ∙ e))
+
+pub announced_none : (s : ℕ) (x : Option Owed) → x ≡ None → IsTrue (has_slot 0 s) ↔ (x ≡ Some Announcement)
+announced_none s x is = (λ h. let no = no_slot 0 s refl in absurd cc, λ e. absurd cc)

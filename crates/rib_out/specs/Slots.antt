@@ -1,11 +1,7 @@
 -- Sets of slots, as numbers with a bit a slot.
-use Rattle.std.specs.Prelude.{ℕ, ◌==◌, Bool, not, bit_and}
+use Rattle.std.specs.Prelude.{ℕ, ◌==◌, Bool}
 use Rattle.std.specs.Int.{bit_at}
 
 -- whether the slot is one of the set
 abbrev pub has_slot : ℕ → ℕ → Bool
 has_slot slots slot = bit_at slots slot == 1
-
--- whether two sets have a slot in common
-abbrev pub share_slot : ℕ → ℕ → Bool
-share_slot slots other = not (bit_and slots other == 0)

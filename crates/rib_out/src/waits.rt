@@ -1,9 +1,8 @@
 //! What waits of one prefix.
-ghost use Rattle.std.specs.Prelude.{◌≡◌, ◌↔◌, ◌<◌, ◌==◌, ℕ, IsTrue, None, Some, bit_and, is_some, if◌then◌else◌};
+ghost use Rattle.std.specs.Prelude.{◌≡◌, ◌↔◌, ◌<◌, ◌==◌, ℕ, IsTrue, None, Some, bit_and, if◌then◌else◌};
 
 use crate::marks::{Marks, Owed};
 use crate::slots::{self, Slots};
-use prefix_trie::Marked;
 
 /// What waits of one prefix for each slot: a withdrawal of it, an announcement, or nothing.
 #[derive(Clone, Copy)]
@@ -12,21 +11,11 @@ pub struct Waits {
     pub ghost never_both: { bit_and marks.withdrawals marks.announcements ≡ 0 },
 }
 
-impl Marked for Waits {
-    type Marks = Marks;
-
-    ghost marks_of = { λ waits. waits.marks };
-
-    fn marks(&self) -> Marks {
-        self.marks
-    }
-}
-
 impl Waits {
+    ghost use Rattle.rib_out.specs.Queues.{is_wanted};
     ghost use Rattle.rib_out.specs.Slots.{has_slot};
-    ghost use Rattle.rib_out.specs.Waiting.{marks_meet, owed_by};
+    ghost use Rattle.rib_out.specs.Waiting.{owed_by};
     ghost use Rattle.rib_out.specs.declared.marks.Owed.TheVariants.{Announcement};
-    ghost use Rattle.rib_out.specs.declared.waits.Waits.{Waits};
 
     /// For no slot waits anything.
     pub fn for_none() -> Self
@@ -48,6 +37,14 @@ impl Waits {
         self.marks.withdrawals == 0 && self.marks.announcements == 0
     }
 
+    /// Whether the same waits for each slot.
+    pub(crate) fn is_same(&self, other: &Waits) -> bool
+        ensures { IsTrue result → (s : ℕ) → owed_by self.now s ≡ owed_by other.now s }
+    {
+        self.marks.withdrawals == other.marks.withdrawals
+            && self.marks.announcements == other.marks.announcements
+    }
+
     /// What waits for the slot.
     pub(crate) fn owed(&self, slot: u8) -> Option<Owed>
         requires { slot < 64 }
@@ -59,6 +56,18 @@ impl Waits {
             Some(Owed::Announcement)
         } else {
             None
+        }
+    }
+
+    /// Whether this waits for the slot, or where nothing is named, whether anything does.
+    pub(crate) fn owes(&self, slot: u8, wanted: Option<Owed>) -> bool
+        requires { slot < 64 }
+        ensures { result ≡ is_wanted wanted (owed_by self.now slot) }
+    {
+        let owed = self.owed(slot);
+        match wanted {
+            Some(_) => owed == wanted,
+            None => owed.is_some(),
         }
     }
 
@@ -93,33 +102,5 @@ impl Waits {
             },
         };
         *self = Waits { marks };
-    }
-
-    /// The mark of a prefix of which this waits for the slot.
-    pub(crate) fn mark_of(slot: u8, owed: Owed) -> Marks
-        requires { slot < 64 }
-        ensures { (waits : Waits) → IsTrue (marks_meet waits.marks result) ↔ (owed_by waits slot ≡ Some owed) }
-    {
-        match owed {
-            Owed::Withdrawal => Marks {
-                withdrawals: slots::only(slot),
-                announcements: 0,
-            },
-            Owed::Announcement => Marks {
-                withdrawals: 0,
-                announcements: slots::only(slot),
-            },
-        }
-    }
-
-    /// The marks of a prefix of which anything waits for the slot.
-    pub(crate) fn marks_for(slot: u8) -> Marks
-        requires { slot < 64 }
-        ensures { (waits : Waits) → marks_meet waits.marks result ≡ is_some (owed_by waits slot) }
-    {
-        Marks {
-            withdrawals: slots::only(slot),
-            announcements: slots::only(slot),
-        }
     }
 }

@@ -8,6 +8,14 @@ use rib_out::{Owed, Waiting};
 use std::alloc::{AllocError, Allocator, Global};
 use std::process::Abort;
 
+// Of no prefix is anything known.
+fn none_known<A: Allocator + Clone>(rt: &impl Abort, alloc: A) -> Waiting<A> {
+    match Waiting::new(alloc) {
+        Ok(waiting) => waiting,
+        Err(_) => panic!(rt; "no memory"),
+    }
+}
+
 // Makes the prefix known, and marks it.
 fn mark<A: Allocator + Clone>(
     waiting: &mut Waiting<A>,
@@ -109,7 +117,7 @@ fn finds_what_waits<A: Allocator + Clone>(waiting: &mut Waiting<A>) -> bool {
 
 #[test]
 fn what_waits_is_found_in_the_order_of_prefixes(rt: HostRuntime) {
-    let mut waiting = Waiting::new(rt.alloc());
+    let mut waiting = none_known(&rt, rt.alloc());
     assert!(rt; finds_what_waits(&mut waiting));
 }
 
@@ -147,7 +155,7 @@ fn follows_what_waits<A: Allocator + Clone>(waiting: &mut Waiting<A>) -> bool {
 
 #[test]
 fn what_waits_changes_until_nothing_does(rt: HostRuntime) {
-    let mut waiting = Waiting::new(rt.alloc());
+    let mut waiting = none_known(&rt, rt.alloc());
     assert!(rt; follows_what_waits(&mut waiting));
     waiting.forget(LOW);
     assert!(rt; knows(&waiting, &[HIGH]));
@@ -174,7 +182,7 @@ fn releases_records<A: Allocator + Clone>(waiting: &mut Waiting<A>) -> bool {
 
 #[test]
 fn a_record_goes_once_nothing_of_it_waits(rt: HostRuntime) {
-    let mut waiting = Waiting::new(rt.alloc());
+    let mut waiting = none_known(&rt, rt.alloc());
     assert!(rt; releases_records(&mut waiting));
 }
 
@@ -202,19 +210,42 @@ fn fill<A: Allocator + Clone>(rt: &impl Abort, waiting: &mut Waiting<A>) -> u32 
             refused = refused.saturating_add(1);
         }
     }
-    for number in 0..16u32 {
-        let prefix = prefix_of(rt, number * 256, 24);
-        assert!(rt; waiting.get(7, prefix) == Some(Owed::Announcement));
-    }
     refused
 }
 
-// Fills it, and answers how often a growth was refused.
-fn refusals_in<A: Allocator + Clone>(rt: &impl Abort, mut waiting: Waiting<A>) -> u32 {
-    fill(rt, &mut waiting)
+// Whether each of them waits to be announced to slot 7, in order, and is all that waits for it.
+fn has_all<A: Allocator>(rt: &impl Abort, waiting: &Waiting<A>) -> bool {
+    let mut last = None;
+    for number in 0..16u32 {
+        let prefix = prefix_of(rt, number * 256, 24);
+        let next = waiting.next(7, Owed::Announcement, last);
+        if next != Some(prefix) || waiting.next_owed(7, last) != next {
+            return false;
+        }
+        last = next;
+    }
+    waiting.next_owed(7, last).is_none()
+}
+
+// Whether the queue of slot 7, which may have been lost, begins anew.
+fn begins_anew<A: Allocator + Clone>(waiting: &mut Waiting<A>) -> bool {
+    let first = Prefix { bits: 0, len: 24 };
+    waiting.clear(7);
+    waiting.next_owed(7, None).is_none()
+        && marks(waiting, &[(7, first, Some(Owed::Withdrawal))])
+        && waits(waiting, 7, Owed::Withdrawal, &[first])
+}
+
+// Fills it from a heap that refuses one request, of a record or of a queue, and answers whether one was refused. No
+// more than one record is, and all that waits is found though a queue was lost.
+fn refusals_in(rt: &impl Abort, heap: &Refusing<Global>) -> u32 {
+    let mut waiting = none_known(rt, heap);
+    assert!(rt; fill(rt, &mut waiting) < 2);
+    assert!(rt; has_all(rt, &waiting) && begins_anew(&mut waiting));
+    u32::from(heap.has_refused())
 }
 
 #[test]
 fn a_refused_growth_leaves_what_waits(rt: HostRuntime) {
-    assert!(rt; is_filled_at_last(rt.alloc(), |heap| refusals_in(&rt, Waiting::new(heap))));
+    assert!(rt; is_filled_at_last(rt.alloc(), |heap| refusals_in(&rt, heap)));
 }

@@ -160,3 +160,12 @@ module _ (slot : ℕ) (first t u : RoutingState)
     | inr other ↦
         others_too s p (λ same. absurd (other same)) ∙ others s p (λ same. absurd (other same)) ∙ sym (ap (λ b. cond b None (owed_at first.waiting s p)) (ne_eqb s slot other))
   ]
+
+-- just what waited for each slot waits for it where a slot for which nothing did is cleared
+pub owed_anew : (slot : ℕ) (old new : List (Prefix × Waits)) → ((p : Prefix) → owed_at old slot p ≡ None) → ((s : ℕ) (p : Prefix) → owed_at new s p ≡ cond (s == slot) None (owed_at old s p))
+    → (s : ℕ) (p : Prefix) → owed_at new s p ≡ owed_at old s p
+owed_anew slot old new none cleared s p = cleared s p ∙ by_slot (s == slot) refl
+  where
+    by_slot : (b : Bool) → (s == slot) ≡ b → cond b None (owed_at old s p) ≡ owed_at old s p
+    by_slot true is = sym (ap (λ n. owed_at old n p) (eqb-true s slot is) ∙ none p)
+    by_slot false is = refl

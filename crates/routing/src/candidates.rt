@@ -8,6 +8,7 @@ ghost use Rattle.rib_in.specs.LatestRoutes.{HasRoute, route_at};
 ghost use Rattle.routing.specs.Candidates.{IsFeasible, IsMade, degree_by, degree_of, judged_at, local_candidate, network_at, origin_in, taken};
 ghost use Rattle.routing.specs.declared.candidates.Mandatory.{Mandatory as TheMandatory};
 ghost use Rattle.local_exceptions.specs.ExceptionSets.{behind, is_turned};
+ghost use Rattle.origin_valid.specs.declared.validity.Validity.TheVariants.{NotFound};
 ghost use Rattle.origin_valid.specs.Stretches.{changed_prefixes, prefixes_of, stretches};
 ghost use Rattle.prefix_trie.specs.CoverWalks.{covers};
 ghost use Rattle.routing.specs.Chosen.{AreDifferent, OncePerPrefix};
@@ -55,7 +56,9 @@ pub fn candidate<A: Allocator + Clone>(
     identifier: u32,
     attrs: &Attrs<A>,
 ) -> Option<Candidate>
-    ensures { IsMade conf.now slot identifier attrs.now result }
+    ensures made { IsMade conf.now slot identifier attrs.now result }
+    // It isn't judged yet: its state in the payloads in force goes by the prefix.
+    ensures unjudged { IfSome result (λ c. c.validity ≡ NotFound) }
 {
     let peer = conf.peer(slot)?;
     let kind = PeerKind::between(conf.own(), peer.asn);
@@ -72,7 +75,6 @@ pub fn candidate<A: Allocator + Clone>(
         cost: mandatory.cost,
         identifier,
         address: peer.address,
-        // What it is in the payloads in force goes by the prefix.
         validity: Validity::NotFound,
     })
 }

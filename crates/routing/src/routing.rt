@@ -9,7 +9,8 @@ ghost use Rattle.decision.specs.BookContents.{AreApart, BookState, changed, is_p
 ghost use Rattle.net_prefix.specs.PrefixOrder.{IsAbove, prefix_cmp};
 ghost use Rattle.net_prefix.specs.declared.prefix.Prefix.{Prefix as ThePrefix};
 ghost use Rattle.rib_in.specs.LatestRoutes.{RouteTable, is_route, route_at};
-ghost use Rattle.rib_out.specs.Alike.{IsListed};
+ghost use Rattle.rib_out.specs.Alike.{IsListed, is_listed};
+ghost use Rattle.rib_out.specs.Slots.{has_slot};
 ghost use Rattle.rib_out.specs.Held.{is_among};
 ghost use Rattle.rib_out.specs.Waiting.{is_known, owed_at, owed_by};
 ghost use Rattle.rib_out.specs.declared.marks.Owed.TheVariants.{Announcement};
@@ -58,15 +59,19 @@ impl<A: Allocator + Clone, B: Book<A>> Model for Routing<A, B> {
 impl<A: Allocator + Clone, B: Book<A>> Routing<A, B> {
     /// No routes, and nothing waits.
     pub fn new(alloc: A) -> Result<Self, AllocError>
-        ensures { IfOk result (λ t. t ≡ started t.alike) }
+        ensures state { IfOk result (λ t. t ≡ started t.alike) }
+        ensures none { IfOk result (λ t. (s : ℕ) (o : List ℕ) (p : ThePrefix) → is_listed t.alike s o p ≡ false) }
+        ensures whole { IfOk result (λ t. (s : ℕ) → s < 64 → has_slot t.alike.whole s ≡ true) }
     {
-        let waiting = Waiting::new(alloc.clone()?);
+        let waiting = Waiting::new(alloc.clone()?)?;
         Self::with_waiting(alloc, waiting)
     }
 
     // No routes, with this of what waits.
     fn with_waiting(alloc: A, waiting: Waiting<A>) -> Result<Self, AllocError>
-        ensures { IfOk result (λ t. t ≡ record (started t.alike) { waiting = waiting }) }
+        ensures state { IfOk result (λ t. t ≡ record (started t.alike) { waiting = waiting }) }
+        ensures none { IfOk result (λ t. (s : ℕ) (o : List ℕ) (p : ThePrefix) → is_listed t.alike s o p ≡ false) }
+        ensures whole { IfOk result (λ t. (s : ℕ) → s < 64 → has_slot t.alike.whole s ≡ true) }
     {
         let alike = AlikePrefixes::new(alloc.clone()?);
         let ribs = Ribs::new(alloc)?;
@@ -204,6 +209,19 @@ impl<A: Allocator + Clone, B: Book<A>> Routing<A, B> {
     {
         self.clear_each(slot, Owed::Withdrawal);
         self.clear_each(slot, Owed::Announcement);
+        self.begin_anew(slot);
+    }
+
+    // The queue and the list of the slot, for which nothing waits, begin anew: they are whole again.
+    fn begin_anew(&mut self, slot: u8)
+        requires slot { slot < 64 }
+        requires none { (p : ThePrefix) → owed_at self.old.waiting slot p ≡ None }
+        ensures owed { (s : ℕ) (p : ThePrefix) → owed_at self.new.waiting s p ≡ owed_at self.old.waiting s p }
+        ensures known { (p : ThePrefix) → is_known self.new.waiting p ≡ is_known self.old.waiting p }
+        ensures listed { (s : ℕ) (o : List ℕ) (p : ThePrefix) → s ≢ slot → IsListed self.old.alike s o p → IsListed self.new.alike s o p }
+        ensures rest { self.new ≡ record self.old { waiting = self.new.waiting; alike = self.new.alike } }
+    {
+        self.waiting.clear(slot);
         self.alike.clear(slot);
     }
 

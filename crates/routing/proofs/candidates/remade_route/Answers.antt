@@ -17,5 +17,5 @@ returns g c =
       routed = rw (← c.in_ok-attrs.ensures) refl;
       offer = subst (λ o. IsOffer t c.args.slot c.args.prefix o) (sym judged)
           (candidate_made t c.args.prefix c.args.slot c.identifier.result
-          c.in_ok-link.link.now.peer.session c.in_ok-attrs.attrs.now c.candidate-candidate.result c.requires found (sym c.in_ok-attrs.ensures) told c.candidate-candidate.ensures);
+          c.in_ok-link.link.now.peer.session c.in_ok-attrs.attrs.now c.candidate-candidate.result c.requires found (sym c.in_ok-attrs.ensures) told c.candidate-candidate.ensures.made);
     }

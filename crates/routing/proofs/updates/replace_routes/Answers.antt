@@ -22,7 +22,7 @@ announce_each-requires-clause-ready g c =
 
 pub announce_each-requires-clause-apart : goal.announce_each-requires-clause-apart
 announce_each-requires-clause-apart g c =
-    let made = rw c.deref.ensures at c.candidate-candidate.ensures in
+    let made = rw c.deref.ensures at c.candidate-candidate.ensures.made in
     let withdrawn = (front_prefixes c.args.withdrawn.octets.now).0 in
     let announced = (front_prefixes c.args.announced.octets.now).0 in
     let only = is_only_withdrawn withdrawn announced in
@@ -32,7 +32,7 @@ announce_each-requires-clause-apart g c =
 
 pub returns-clause-sound : goal.returns-clause-sound
 returns-clause-sound g c =
-    let made = rw c.deref.ensures at c.candidate-candidate.ensures in
+    let made = rw c.deref.ensures at c.candidate-candidate.ensures.made in
     let come = rw c.deref-2.ensures at c.announce_each.ensures.offers in
     let withdrawn = (front_prefixes c.args.withdrawn.octets.now).0 in
     let announced = (front_prefixes c.args.announced.octets.now).0 in
@@ -42,7 +42,7 @@ returns-clause-sound g c =
 
 pub returns-clause-taken : goal.returns-clause-taken
 returns-clause-taken g c =
-    let made = rw c.deref.ensures at c.candidate-candidate.ensures in
+    let made = rw c.deref.ensures at c.candidate-candidate.ensures.made in
     let come_routes = rw c.deref-2.ensures at c.announce_each.ensures.routes in
     let come_offers = rw c.deref-2.ensures at c.announce_each.ensures.offers in
     let withdrawn = (front_prefixes c.args.withdrawn.octets.now).0 in

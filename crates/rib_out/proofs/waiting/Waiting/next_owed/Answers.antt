@@ -1,14 +1,21 @@
-use Rattle.rib_out.proofs.Walks.{any_above, any_has, any_least, any_none}
+use Rattle.std.proofs.Common.{None}
+use Rattle.rib_out.specs.Waiting.{owed_at}
+use Rattle.rib_out.proofs.Walks.{any_least, any_of_all, none_of_all, walk_above, walk_least}
 use Rattle.rib_out.proofs.waiting.Waiting.next_owed.Goals as goal
 
-pub returns-clause-has : goal.returns-clause-has
-returns-clause-has g c = rw (← c.self.view_is) (any_has _ c.args.slot c.marks_for.result c.args.after c.marks_for.ensures _ c.self.invariant c.marked_after.ensures)
+pub returns-then-is_whole-clause-least : goal.returns-then-is_whole-clause-least
+returns-then-is_whole-clause-least g c =
+    rw c.lesser.ensures
+    (any_least (owed_at c.args.self.now c.args.slot) c.args.after c.next.result c.next-then-is_whole.result c.next.ensures.least c.next.ensures.none c.next-then-is_whole.ensures.least c.next-then-is_whole.ensures.none)
 
-pub returns-clause-above : goal.returns-clause-above
-returns-clause-above g c = any_above _ c.args.slot c.marks_for.result c.args.after c.marks_for.ensures _ c.self.invariant c.marked_after.ensures
+pub returns-else-is_whole-clause-has : goal.returns-else-is_whole-clause-has
+returns-else-is_whole-clause-has g c = any_of_all c.args.self.now c.args.slot c.args.after c.next_of_all.result c.next_of_all.ensures.rising c.next_of_all.ensures.first
 
-pub returns-clause-least : goal.returns-clause-least
-returns-clause-least g c = rw (← c.self.view_is) (any_least _ c.args.slot c.marks_for.result c.args.after c.marks_for.ensures _ c.self.invariant c.marked_after.ensures)
+pub returns-else-is_whole-clause-above : goal.returns-else-is_whole-clause-above
+returns-else-is_whole-clause-above g c = walk_above c.args.self.now c.args.slot None c.args.after c.next_of_all.result c.next_of_all.ensures.rising c.next_of_all.ensures.first
 
-pub returns-clause-none : goal.returns-clause-none
-returns-clause-none g c = rw (← c.self.view_is) (any_none _ c.args.slot c.marks_for.result c.args.after c.marks_for.ensures _ c.marked_after.ensures)
+pub returns-else-is_whole-clause-least : goal.returns-else-is_whole-clause-least
+returns-else-is_whole-clause-least g c = walk_least c.args.self.now c.args.slot None c.args.after c.next_of_all.result c.next_of_all.ensures.rising c.next_of_all.ensures.first
+
+pub returns-else-is_whole-clause-none : goal.returns-else-is_whole-clause-none
+returns-else-is_whole-clause-none g c = none_of_all c.args.self.now c.args.slot c.args.after c.next_of_all.result c.next_of_all.ensures.first
