@@ -1,6 +1,5 @@
 //! The interior cost of a `reach` entry.
 
-use prefix_trie::Marked;
 use std::marker::Model;
 
 /// The interior cost of the next hops under a prefix.
@@ -13,12 +12,4 @@ impl Model for Cost {
     ghost Value = { ℕ };
 
     ghost view = { λ c. c.0 };
-}
-
-impl Marked for Cost {
-    type Marks = ();
-
-    ghost marks_of = { λ _. tt };
-
-    fn marks(&self) {}
 }

@@ -10,7 +10,6 @@ use crate::states_under::{kept_by, kept_state};
 use crate::validity::{Validity, both, matches};
 use local_exceptions::Exceptions;
 use net_prefix::{Asn, Prefix, Vrp};
-use prefix_trie::Marked;
 use std::alloc::{Allocator, Global};
 use std::cmp::Ordering;
 use std::collections::BTreeSet;
@@ -126,12 +125,4 @@ fn any_matches<A: Allocator>(
     payloads
         .iter()
         .any(|payload| matches(payload, prefix, origin))
-}
-
-impl<A: Allocator> Marked for PrefixPayloads<A> {
-    type Marks = ();
-
-    ghost marks_of = { λ _. tt };
-
-    fn marks(&self) {}
 }

@@ -3,26 +3,12 @@ ghost use Rattle.std.specs.Iterator.{IsFinite};
 
 use crate::sets::requests_of;
 use net_prefix::Prefix;
-use prefix_trie::{Marked, Trie};
+use prefix_trie::Trie;
 use refusing::Refusing;
 use std::alloc::Allocator;
 use std::process::Abort;
 
-// A value with marks.
-#[derive(Clone, Copy, Debug, PartialEq, Eq)]
-struct Slots(u64);
-
-impl Marked for Slots {
-    type Marks = u64;
-
-    ghost marks_of = { λ slots. slots.0 };
-
-    fn marks(&self) -> u64 {
-        self.0
-    }
-}
-
-// A prefix, and the marks of its value.
+// A prefix, and its value.
 type Entry = (Prefix, u64);
 
 // In the order of prefixes.
@@ -37,9 +23,9 @@ const ENTRIES: [Entry; 6] = [
 ];
 
 // Whether each entry is put in, the last one first.
-fn fills(trie: &mut Trie<Slots>) -> bool {
-    for (prefix, marks) in ENTRIES.iter().rev() {
-        if trie.insert(*prefix, Slots(*marks)).is_err() {
+fn fills(trie: &mut Trie<u64>) -> bool {
+    for (prefix, value) in ENTRIES.iter().rev() {
+        if trie.insert(*prefix, *value).is_err() {
             return false;
         }
     }
@@ -47,10 +33,10 @@ fn fills(trie: &mut Trie<Slots>) -> bool {
 }
 
 // Whether the trie has just the entries, each after the one before it.
-fn has_all(trie: &Trie<Slots>) -> bool {
+fn has_all(trie: &Trie<u64>) -> bool {
     let mut last = None;
-    for (prefix, marks) in &ENTRIES {
-        if trie.after(last) != Some(*prefix) || trie.get(prefix) != Some(&Slots(*marks)) {
+    for (prefix, value) in &ENTRIES {
+        if trie.after(last) != Some(*prefix) || trie.get(prefix) != Some(value) {
             return false;
         }
         last = Some(*prefix);
@@ -58,17 +44,9 @@ fn has_all(trie: &Trie<Slots>) -> bool {
     trie.after(last).is_none() && trie.len() == ENTRIES.len()
 }
 
-// Whether the prefixes of marks are found.
-fn finds_marked(trie: &Trie<Slots>) -> bool {
-    let first = trie.marked_after(None, 8 | 32);
-    first == Some(BELOW)
-        && trie.marked_after(first, 8 | 32) == Some(ENTRIES[5].0)
-        && trie.marked_after(None, 64).is_none()
-}
-
-fn finds_entries(trie: &mut Trie<Slots>) -> bool {
+fn finds_entries(trie: &mut Trie<u64>) -> bool {
     let is_empty = trie.after(None).is_none() && trie.len() == 0;
-    is_empty && fills(trie) && has_all(trie) && finds_marked(trie)
+    is_empty && fills(trie) && has_all(trie)
 }
 
 #[test]
@@ -92,26 +70,25 @@ const MISSING: Prefix = Prefix {
     len: 8,
 };
 
-// Gives the value of the prefix these marks, if it is there.
-fn is_marked<A: Allocator + Clone>(trie: &mut Trie<Slots, A>, prefix: &Prefix, marks: u64) -> bool {
-    trie.update(prefix, |slots: &mut Slots| slots.0 = marks)
+// Gives the prefix this value, if it is there.
+fn is_given<A: Allocator + Clone>(trie: &mut Trie<u64, A>, prefix: &Prefix, new: u64) -> bool {
+    trie.update(prefix, |value: &mut u64| *value = new)
 }
 
 // Whether the value of a prefix is changed; another one isn't there.
-fn changes(trie: &mut Trie<Slots>) -> bool {
-    let is_changed = is_marked(trie, &TOP, 64);
-    let is_missing = !is_marked(trie, &MISSING, 64);
-    is_changed && is_missing && trie.marked_after(None, 64) == Some(TOP)
+fn changes(trie: &mut Trie<u64>) -> bool {
+    let is_changed = is_given(trie, &TOP, 64);
+    let is_missing = !is_given(trie, &MISSING, 64);
+    is_changed && is_missing && trie.get(&TOP) == Some(&64)
 }
 
 // Whether it is taken out then, once.
-fn takes_out(trie: &mut Trie<Slots>) -> bool {
-    let is_taken = trie.remove(&TOP) == Some(Slots(64));
-    let is_gone = trie.remove(&TOP).is_none() && trie.remove(&MISSING).is_none();
-    is_taken && is_gone && trie.marked_after(None, 64).is_none()
+fn takes_out(trie: &mut Trie<u64>) -> bool {
+    let is_taken = trie.remove(&TOP) == Some(64);
+    is_taken && trie.remove(&TOP).is_none() && trie.remove(&MISSING).is_none()
 }
 
-fn changes_and_takes_out(trie: &mut Trie<Slots>) -> bool {
+fn changes_and_takes_out(trie: &mut Trie<u64>) -> bool {
     let is_done = fills(trie) && changes(trie) && takes_out(trie);
     is_done && trie.len() == 5 && trie.get(&BELOW).is_some()
 }
@@ -123,11 +100,11 @@ fn an_entry_is_changed_and_taken_out(rt: HostRuntime) {
 }
 
 // Whether just these of the entries are still to come.
-fn comes<'a, I: Iterator<Item = (Prefix, &'a Slots)>>(mut entries: I, expected: &[Entry]) -> bool
+fn comes<'a, I: Iterator<Item = (Prefix, &'a u64)>>(mut entries: I, expected: &[Entry]) -> bool
     requires { I.can_next entries × IsFinite (I.remaining entries) }
 {
-    for (prefix, marks) in expected {
-        if entries.next() != Some((*prefix, &Slots(*marks))) {
+    for (prefix, value) in expected {
+        if entries.next() != Some((*prefix, value)) {
             return false;
         }
     }
@@ -135,7 +112,7 @@ fn comes<'a, I: Iterator<Item = (Prefix, &'a Slots)>>(mut entries: I, expected: 
 }
 
 // Whether the prefix covers just these of the trie.
-fn covers<A: Allocator>(trie: &Trie<Slots, A>, prefix: &Prefix, expected: &[Entry]) -> bool {
+fn covers<A: Allocator>(trie: &Trie<u64, A>, prefix: &Prefix, expected: &[Entry]) -> bool {
     comes(trie.covered(prefix), expected)
 }
 
@@ -148,20 +125,20 @@ const BESIDE: [Prefix; 3] = [
 ];
 
 // Whether those come that prefixes of entries cover.
-fn come_below(trie: &Trie<Slots>) -> bool {
+fn come_below(trie: &Trie<u64>) -> bool {
     covers(trie, &ENTRIES[0].0, &ENTRIES)
         && covers(trie, &ENTRIES[1].0, &ENTRIES[1..5])
         && covers(trie, &ENTRIES[4].0, &ENTRIES[4..5])
 }
 
 // Whether those come that the others cover.
-fn come_beside(trie: &Trie<Slots>) -> bool {
+fn come_beside(trie: &Trie<u64>) -> bool {
     covers(trie, &BESIDE[0], &ENTRIES[2..4])
         && covers(trie, &BESIDE[1], &ENTRIES[5..])
         && covers(trie, &BESIDE[2], &[])
 }
 
-fn come_once_filled(trie: &mut Trie<Slots>) -> bool {
+fn come_once_filled(trie: &mut Trie<u64>) -> bool {
     let is_empty = comes(trie.iter(), &[]);
     is_empty && fills(trie) && comes(trie.iter(), &ENTRIES) && come_below(trie) && come_beside(trie)
 }
@@ -181,13 +158,13 @@ const COVERING: [Entry; 3] = [
 ];
 
 // Whether what covers a prefix comes, and how many nodes are looked at meanwhile.
-fn is_covered(trie: &Trie<Slots>, prefix: &Prefix) -> bool {
+fn is_covered(trie: &Trie<u64>, prefix: &Prefix) -> bool {
     let mut covering = trie.covering(prefix);
     if covering.visited() != 0 {
         return false;
     }
-    for (prefix, marks) in &COVERING {
-        if covering.next() != Some((*prefix, &Slots(*marks))) {
+    for (prefix, value) in &COVERING {
+        if covering.next() != Some((*prefix, value)) {
             return false;
         }
     }
@@ -217,38 +194,33 @@ const GROWING: [Entry; 7] = [
 const REQUESTS: u64 = 9;
 
 // Whether the trie has just these.
-fn has_just<A: Allocator>(trie: &Trie<Slots, A>, entries: &[Entry]) -> bool {
-    for (prefix, marks) in entries {
-        if trie.get(prefix) != Some(&Slots(*marks)) {
+fn has_just<A: Allocator>(trie: &Trie<u64, A>, entries: &[Entry]) -> bool {
+    for (prefix, value) in entries {
+        if trie.get(prefix) != Some(value) {
             return false;
         }
     }
     trie.len() == entries.len() && trie.iter().count() == entries.len()
 }
 
-// Whether an entry that was refused isn't there, and those before it are.
-fn is_left<A: Allocator>(trie: &Trie<Slots, A>, before: &[Entry], marks: u64) -> bool {
-    has_just(trie, before) && trie.marked_after(None, marks).is_none()
-}
-
 // Puts an entry in, behind these, and again where a growth is refused. Answers whether one was.
 fn is_put_again<A: Allocator + Clone>(
     rt: &impl Abort,
-    trie: &mut Trie<Slots, A>,
+    trie: &mut Trie<u64, A>,
     entry: &Entry,
     before: &[Entry],
 ) -> bool {
-    let (prefix, marks) = *entry;
-    let Err(failed) = trie.insert(prefix, Slots(marks)) else {
+    let (prefix, value) = *entry;
+    let Err(failed) = trie.insert(prefix, value) else {
         return false;
     };
-    assert!(rt; failed.value == Slots(marks) && is_left(trie, before, marks));
-    assert!(rt; matches!(trie.insert(prefix, Slots(marks)), Ok(None)));
+    assert!(rt; failed.value == value && has_just(trie, before));
+    assert!(rt; matches!(trie.insert(prefix, value), Ok(None)));
     true
 }
 
 // Puts each in, and again where a growth is refused. Answers how often one was.
-fn put_all<A: Allocator + Clone>(rt: &impl Abort, trie: &mut Trie<Slots, A>) -> u32 {
+fn put_all<A: Allocator + Clone>(rt: &impl Abort, trie: &mut Trie<u64, A>) -> u32 {
     let mut refused = 0u32;
     for (at, entry) in GROWING.iter().enumerate() {
         if is_put_again(rt, trie, entry, &GROWING[..at]) {
@@ -260,7 +232,7 @@ fn put_all<A: Allocator + Clone>(rt: &impl Abort, trie: &mut Trie<Slots, A>) -> 
 }
 
 // Fills the trie, and answers how often a growth was refused.
-fn refusals_in<A: Allocator + Clone>(rt: &impl Abort, mut trie: Trie<Slots, A>) -> u32 {
+fn refusals_in<A: Allocator + Clone>(rt: &impl Abort, mut trie: Trie<u64, A>) -> u32 {
     put_all(rt, &mut trie)
 }
 
@@ -296,17 +268,15 @@ const HOST: Prefix = Prefix {
 };
 
 // Whether each call that goes over the trie finds them.
-fn finds_all<A: Allocator>(trie: &Trie<Slots, A>) -> bool {
+fn finds_all<A: Allocator>(trie: &Trie<u64, A>) -> bool {
     comes(trie.iter(), &RISING)
         && covers(trie, &TOP, &RISING[2..5])
         && comes(trie.covering(&HOST), &COVERING_HOST)
 }
 
 // Whether each call that looks for one finds it.
-fn finds_each<A: Allocator>(trie: &Trie<Slots, A>) -> bool {
-    has_just(trie, &RISING)
-        && trie.after(Some(TOP)) == Some(RISING[3].0)
-        && trie.marked_after(Some(TOP), 2 | 4 | 32) == Some(RISING[4].0)
+fn finds_each<A: Allocator>(trie: &Trie<u64, A>) -> bool {
+    has_just(trie, &RISING) && trie.after(Some(TOP)) == Some(RISING[3].0)
 }
 
 // What the calls leave that put no new prefix in.
@@ -320,30 +290,30 @@ const LEFT: [Entry; 5] = [
 ];
 
 // Whether each of those calls answers right.
-fn changes_what_is_there<A: Allocator + Clone>(trie: &mut Trie<Slots, A>) -> bool {
-    let is_changed = is_marked(trie, &LEFT[1].0, 128) && !is_marked(trie, &MISSING, 128);
-    let is_replaced = matches!(trie.insert(LEFT[3].0, Slots(256)), Ok(Some(Slots(16))));
+fn changes_what_is_there<A: Allocator + Clone>(trie: &mut Trie<u64, A>) -> bool {
+    let is_changed = is_given(trie, &LEFT[1].0, 128) && !is_given(trie, &MISSING, 128);
+    let is_replaced = matches!(trie.insert(LEFT[3].0, 256), Ok(Some(16)));
     is_changed && is_replaced && takes_two_out(trie) && comes(trie.iter(), &LEFT)
 }
 
 // Whether two entries are taken out, and another one isn't there.
-fn takes_two_out<A: Allocator + Clone>(trie: &mut Trie<Slots, A>) -> bool {
-    trie.remove(&TOP) == Some(Slots(2))
-        && trie.remove(&RISING[3].0) == Some(Slots(1))
+fn takes_two_out<A: Allocator + Clone>(trie: &mut Trie<u64, A>) -> bool {
+    trie.remove(&TOP) == Some(2)
+        && trie.remove(&RISING[3].0) == Some(1)
         && trie.remove(&MISSING).is_none()
 }
 
 // Makes each call that is to take no memory. Answers whether each is right.
-fn takes_no_memory<A: Allocator + Clone>(rt: &impl Abort, trie: &mut Trie<Slots, A>) -> bool {
+fn takes_no_memory<A: Allocator + Clone>(rt: &impl Abort, trie: &mut Trie<u64, A>) -> bool {
     let is_filled = put_all(rt, trie) == 0;
     is_filled && finds_all(trie) && finds_each(trie) && changes_what_is_there(trie)
 }
 
 // Whether a new prefix is refused, and leaves the others.
-fn is_refused<A: Allocator + Clone>(trie: &mut Trie<Slots, A>) -> bool {
-    match trie.insert(MISSING, Slots(512)) {
+fn is_refused<A: Allocator + Clone>(trie: &mut Trie<u64, A>) -> bool {
+    match trie.insert(MISSING, 512) {
         Ok(_) => false,
-        Err(failed) => failed.value == Slots(512) && comes(trie.iter(), &LEFT),
+        Err(failed) => failed.value == 512 && comes(trie.iter(), &LEFT),
     }
 }
 
@@ -351,7 +321,7 @@ fn is_refused<A: Allocator + Clone>(trie: &mut Trie<Slots, A>) -> bool {
 fn asks_for_one<B, A: Allocator + Clone>(
     rt: &impl Abort,
     heap: &Refusing<B>,
-    mut trie: Trie<Slots, A>,
+    mut trie: Trie<u64, A>,
 ) {
     assert!(rt; takes_no_memory(rt, &mut trie) && !heap.has_refused());
     assert!(rt; is_refused(&mut trie) && heap.has_refused());

@@ -1,7 +1,7 @@
 -- What is known where a part of a trie begins with a node.
-use Rattle.std.proofs.Common.{Box, Bool, ◌⊎◌, inl, inr, ◌≡◌, ℕ, ◌+◌, ◌<◌, ◌≤◌, ◌++◌, Option, None, Some, refl, sym, ap, subst, ◌∙◌, arith}
+use Rattle.std.proofs.Common.{Box, ◌⊎◌, inl, inr, ◌≡◌, ℕ, ◌+◌, ◌<◌, ◌≤◌, ◌++◌, Option, None, Some, refl, sym, ap, subst, ◌∙◌, arith}
 use Rattle.net_prefix.specs.declared.prefix.Prefix.{Prefix}
-use Rattle.prefix_trie.specs.Nodes.{here, all_of, any_meets, shape, AreParts, IsTrie, RootIs}
+use Rattle.prefix_trie.specs.Nodes.{here, all_of, shape, AreParts, IsTrie, RootIs}
 use Rattle.prefix_trie.specs.declared.node.Link.{Link}
 use Rattle.prefix_trie.specs.declared.node.Link.TheVariants.{Fork}
 use Rattle.prefix_trie.specs.declared.node.Node.{Node}
@@ -103,29 +103,25 @@ found_here p None low high parts = found_above p (low.entries ++ high.entries) (
 found_here p (Some v) low high parts = rw (cmp_same p) refl
 
 -- a part of a trie that begins with a node
-pub record AtNode {V A M : Type 0} (marks_of : V → M) (meet : M → M → Bool) (d : Shape V) (n : Node V A M) : Type 0 where
+pub record AtNode {V A : Type 0} (d : Shape V) (n : Node V A) : Type 0 where
   pub entries : d.entries ≡ all_of n.prefix n.value n.low n.high
   pub root : d.root ≡ Some n.prefix
   pub parts : AreParts n.prefix n.value n.low n.high
-  pub union : (marks : M) → meet n.union marks ≡ any_meets marks_of meet (all_of n.prefix n.value n.low n.high) marks
 
-pub at_node : {V A M : Type 0} (marks_of : V → M) (meet : M → M → Bool) {l : Link V A M} {d : Shape V} {n : Box (Node V A M) A} → shape l ≡ d → IsTrie marks_of meet l → l ≡ Fork n → AtNode {A = A} marks_of meet d n.value
-at_node {V} {A} {M} marks_of meet {l} {d} {n} view_is invariant is =
+pub at_node : {V A : Type 0} {l : Link V A} {d : Shape V} {n : Box (Node V A) A} → shape l ≡ d → IsTrie l → l ≡ Fork n → AtNode {A = A} d n.value
+at_node {V} {A} {l} {d} {n} view_is invariant is =
     let e = sym view_is ∙ ap shape is in
-    let h = subst (IsTrie marks_of meet) is invariant in
     record {
       entries = ap (λ (s : Shape V). s.entries) e;
       root = ap (λ (s : Shape V). s.root) e;
-      parts = h.0;
-      union = h.1;
+      parts = subst IsTrie is invariant;
     }
 
-pub opened : {V A M : Type 0} (marks_of : V → M) (meet : M → M → Bool) (d : Shape V) (n : Box (Node V A M) A) → shape (Fork n) ≡ d → IsTrie marks_of meet (Fork n) → AtNode {A = A} marks_of meet d n.value
-opened {V} {A} {M} marks_of meet d n view_is invariant = record {
+pub opened : {V A : Type 0} (d : Shape V) (n : Box (Node V A) A) → shape (Fork n) ≡ d → IsTrie (Fork n) → AtNode {A = A} d n.value
+opened {V} {A} d n view_is invariant = record {
   entries = ap (λ (s : Shape V). s.entries) (sym view_is);
   root = ap (λ (s : Shape V). s.root) (sym view_is);
-  parts = invariant.0;
-  union = invariant.1;
+  parts = invariant;
 }
 
 pub root_weaker : (P Q : Prefix → Type 0) → ((p : Prefix) → P p → Q p) → (root : Option Prefix) → RootIs P root → RootIs Q root

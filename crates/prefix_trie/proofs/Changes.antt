@@ -131,8 +131,8 @@ pub record IsSeen {V : Type 0} (d : Shape V) (p : Prefix) (w : Option V) (low hi
   pub entries : d.entries ≡ all_of p w low high
   pub root : d.root ≡ Some p
 
-pub seen_at : {V A M : Type 0} (marks_of : V → M) (meet : M → M → Bool) (e d : Shape V) (n : Node V A M) → AtNode {A = A} marks_of meet e n → e ≡ d → IsSeen d n.prefix n.value n.low n.high
-seen_at {V} marks_of meet e d n f same = record {
+pub seen_at : {V A : Type 0} (e d : Shape V) (n : Node V A) → AtNode {A = A} e n → e ≡ d → IsSeen d n.prefix n.value n.low n.high
+seen_at {V} e d n f same = record {
   entries = ap (λ (x : Shape V). x.entries) (sym same) ∙ f.entries;
   root = ap (λ (x : Shape V). x.root) (sym same) ∙ f.root;
 }

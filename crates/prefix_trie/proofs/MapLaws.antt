@@ -12,7 +12,7 @@ use Rattle.net_prefix.specs.PrefixOrder.{IsAbove, prefix_cmp}
 use Rattle.net_prefix.proofs.PayloadSets.{prefix_cmp_exact}
 use Rattle.net_prefix.proofs.Ranks.{rank, cmp_above, cmp_below, cmp_same, less_rank}
 use Rattle.prefix_trie.specs.TrieMap.{IsRising, found, with_entry, without}
-use Rattle.prefix_trie.specs.TrieWalks.{all_after, all_marked, first_key}
+use Rattle.prefix_trie.specs.TrieWalks.{all_after, first_key}
 use Rattle.prefix_trie.proofs.EntryLists.{AreAbove}
 
 equal_case : (o : Ordering) → is_eq o ≡ true → o ≡ Equal
@@ -207,14 +207,14 @@ module _ {V : Type 0} where
         (λ none has. none_first es none q v above has) above (h ∙ ap first_key (step_case e (filter (λ x. is_after after x.0) es) (is_after after e.0))) there
 
   module _ {M : Type 0} (marks_of : V → M) (meet : M → M → Bool) (marks : M) (after : Option Prefix) (es : List (Prefix × V)) where
-    marked_is : first_key (all_marked marks_of meet marks (all_after after es)) ≡ first_passing (λ v. meet (marks_of v) marks) after es
-    marked_is = ap (λ l. first_key (all_marked marks_of meet marks l)) (after_is after es)
+    marked_is : first_key (filter (λ e. meet (marks_of e.1) marks) (all_after after es)) ≡ first_passing (λ v. meet (marks_of v) marks) after es
+    marked_is = ap (λ l. first_key (filter (λ e. meet (marks_of e.1) marks) l)) (after_is after es)
 
-    -- what a walk by marks answers
-    pub least_marked : IsRising es → (p : Prefix) → Some p ≡ first_key (all_marked marks_of meet marks (all_after after es)) → IsLeast (λ v. meet (marks_of v) marks) after es p
+    -- what a walk to the next of those answers whose values have one of the marks
+    pub least_marked : IsRising es → (p : Prefix) → Some p ≡ first_key (filter (λ e. meet (marks_of e.1) marks) (all_after after es)) → IsLeast (λ v. meet (marks_of v) marks) after es p
     least_marked rising p h = least_first (λ v. meet (marks_of v) marks) after es rising p (h ∙ marked_is)
 
-    pub none_marked : None ≡ first_key (all_marked marks_of meet marks (all_after after es)) → IsNone (λ v. meet (marks_of v) marks) after es
+    pub none_marked : None ≡ first_key (filter (λ e. meet (marks_of e.1) marks) (all_after after es)) → IsNone (λ v. meet (marks_of v) marks) after es
     none_marked h = none_first (λ v. meet (marks_of v) marks) after es (h ∙ marked_is)
 
   none_there : (o : Option V) → ((v : V) → o ≡ Some v → true ≡ false) → o ≡ None

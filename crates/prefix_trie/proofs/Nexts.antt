@@ -1,5 +1,5 @@
 -- Behind the first of the entries above a prefix come those above it.
-use Rattle.std.proofs.Common.{◌≡◌, ◌<◌, Bool, cond, List, [], ◌∷◌, Option, None, Some, option_map, refl, sym, ap, subst, ◌∙◌, arith}
+use Rattle.std.proofs.Common.{◌≡◌, ◌<◌, cond, List, [], ◌∷◌, Option, None, Some, option_map, refl, sym, ap, subst, ◌∙◌, arith}
 use Rattle.std.specs.Borrow.{Bor}
 use Rattle.std.specs.List.{AllByRecursion}
 use Rattle.std.specs.List.Sorted.{IsStrictlySortedBy}
@@ -84,11 +84,11 @@ module _ {V : Type 0} where
   is_next k es None rising h = none_case (all_after k es) h
   is_next k es (Some e) rising h = some_case k (seen e) es (all_after k es) rising refl h
 
-rising_shape : {V A M : Type 0} (marks_of : V → M) (meet : M → M → Bool) (l : Link V A M) → IsTrie marks_of meet l → IsRising (shape l).entries
+rising_shape : {V A : Type 0} (l : Link V A) → IsTrie l → IsRising (shape l).entries
 unfolding IsStrictlySortedBy
-rising_shape marks_of meet Empty h = tt
-rising_shape marks_of meet (Fork n) h = h.0.rising
+rising_shape Empty h = tt
+rising_shape (Fork n) h = h.rising
 
 -- the entries of a part of a trie rise
-pub rising_at : {V A M : Type 0} (marks_of : V → M) (meet : M → M → Bool) (l : Link V A M) {d : Shape V} → shape l ≡ d → IsTrie marks_of meet l → IsRising d.entries
-rising_at marks_of meet l {d} view_is invariant = subst (λ (s : Shape _). IsRising s.entries) view_is (rising_shape marks_of meet l invariant)
+pub rising_at : {V A : Type 0} (l : Link V A) {d : Shape V} → shape l ≡ d → IsTrie l → IsRising d.entries
+rising_at l {d} view_is invariant = subst (λ (s : Shape _). IsRising s.entries) view_is (rising_shape l invariant)

@@ -215,7 +215,7 @@ module _ {V : Type 0} where
   unfolding nodes_towards
   towards_none k es e = rw e (none_pass 0 (k.len + 1))
 
-  pub towards_empty : {A M : Type 0} (k : Prefix) (l : Link V A M) (d : Shape V) → shape l ≡ d → ((n : Box (Node V A M) A) → l ≡ Fork n → ⊥) → nodes_towards k d.entries ≡ 0
+  pub towards_empty : {A : Type 0} (k : Prefix) (l : Link V A) (d : Shape V) → shape l ≡ d → ((n : Box (Node V A) A) → l ≡ Fork n → ⊥) → nodes_towards k d.entries ≡ 0
   towards_empty k Empty d is other = towards_none k d.entries (ap (λ (s : Shape V). s.entries) (sym is))
   towards_empty k (Fork n) d is other = absurd (other n refl)
 

@@ -1,7 +1,7 @@
 -- What a node of a trie is seen as, and what holds of it.
 use Rattle.std.specs.Prelude.{ℕ, ◌≡◌, ◌-◌, ◌<◌, ◌++◌, Bool, true, false, List, [], ◌∷◌, Option, None, Some, Result, MatchResult, IfOk, OnErr, IfErr, is_ok, cond, length, ◌%◌}
 use Rattle.std.specs.declared.alloc.AllocFailed.{AllocFailed}
-use Rattle.std.specs.List.{AllByRecursion, list_any}
+use Rattle.std.specs.List.{AllByRecursion}
 use Rattle.net_prefix.specs.Cover.{block_size}
 use Rattle.net_prefix.specs.declared.prefix.Prefix.{Prefix}
 use Rattle.prefix_trie.specs.declared.node.Link.{Link}
@@ -33,10 +33,6 @@ RootIs P (Some p) = P p
 abbrev pub EachIs : {V : Type 0} → (Prefix → Type 0) → List (Prefix × V) → Type 0
 EachIs P entries = AllByRecursion (λ e. P e.0) entries
 
--- the marks of some value meet these
-abbrev pub any_meets : {V M : Type 0} → (V → M) → (M → M → Bool) → List (Prefix × V) → M → Bool
-any_meets marks_of meet entries marks = list_any (λ e. meet (marks_of e.1) marks) entries
-
 -- what holds of the sides of a node: each is in its half, and the entries rise
 pub record AreSides {V : Type 0} (p : Prefix) (v : Option V) (low high : Shape V) : Type 0 where
   pub low_entries : EachIs (IsLow p) low.entries
@@ -55,16 +51,14 @@ pub record AreParts {V : Type 0} (p : Prefix) (v : Option V) (low high : Shape V
   pub full : v ≡ None → (0 < length low.entries) × (0 < length high.entries)
 
 -- what a node is seen as
-abbrev pub shape : {V A M : Type 0} → Link V A M → Shape V
+abbrev pub shape : {V A : Type 0} → Link V A → Shape V
 shape Empty = record { entries = []; root = None }
 shape (Fork n) = record { entries = all_of n.value.prefix n.value.value n.value.low n.value.high; root = Some n.value.prefix }
 
--- what holds of a node: its parts, and that its union has the marks of its values
-abbrev pub IsTrie : {V A M : Type 0} → (V → M) → (M → M → Bool) → Link V A M → Type 0
-IsTrie marks_of meet Empty = Unit {0}
-IsTrie marks_of meet (Fork n) =
-    AreParts n.value.prefix n.value.value n.value.low n.value.high
-    × ((marks : _) → meet n.value.union marks ≡ any_meets marks_of meet (all_of n.value.prefix n.value.value n.value.low n.value.high) marks)
+-- what holds of a node: its parts
+abbrev pub IsTrie : {V A : Type 0} → Link V A → Type 0
+IsTrie Empty = Unit {0}
+IsTrie (Fork n) = AreParts n.value.prefix n.value.value n.value.low n.value.high
 
 -- an entry was put, and these are the entries and the first prefix that it leaves; or it is handed back
 abbrev pub IsPut : {V : Type 0} → Result (Option V) (AllocFailed V) → Shape V → Shape V → V → Prefix → List (Prefix × V) → Type 0

@@ -1,5 +1,5 @@
 -- What is found on the way down a trie.
-use Rattle.std.specs.Prelude.{Bool, List, [], ◌∷◌, Option, None, Some, filter, ◌≡◌, MatchOption}
+use Rattle.std.specs.Prelude.{List, [], ◌∷◌, Option, None, Some, filter, ◌≡◌, MatchOption}
 use Rattle.std.specs.Borrow.{Bor}
 use Rattle.std.specs.Ordering.{is_lt}
 use Rattle.net_prefix.specs.PrefixOrder.{prefix_cmp}
@@ -24,10 +24,6 @@ all_above p entries = filter (λ e. is_lt (prefix_cmp p e.0)) entries
 abbrev pub all_after : {V : Type 0} → Option Prefix → List (Prefix × V) → List (Prefix × V)
 all_after None entries = entries
 all_after (Some p) entries = all_above p entries
-
--- the entries whose values have one of the marks
-abbrev pub all_marked : {V M : Type 0} → (V → M) → (M → M → Bool) → M → List (Prefix × V) → List (Prefix × V)
-all_marked marks_of meet marks entries = filter (λ e. meet (marks_of e.1) marks) entries
 
 -- a value that is lent, as its entry
 abbrev pub seen : {V : Type 0} → Prefix × Bor V → Prefix × V

@@ -4,7 +4,6 @@ ghost use Rattle.prefix_trie.specs.CoverWalks.{all_covered, all_covering, coveri
 ghost use Rattle.prefix_trie.specs.Nodes.{depth, here};
 ghost use Rattle.prefix_trie.specs.TrieWalks.{left_in, seen};
 
-use crate::marks::Marked;
 use crate::node::{Link, Node, Tree};
 use crate::places::{Place, place_of};
 use net_prefix::Prefix;
@@ -12,7 +11,7 @@ use std::alloc::Allocator;
 
 /// A step to the next entry that covers a prefix.
 #[derive(Drop)]
-pub(crate) struct Step<'a, V: Marked, A: Allocator> {
+pub(crate) struct Step<'a, V: Drop, A: Allocator> {
     /// The entry.
     pub(crate) entry: Option<(Prefix, &'a V)>,
     /// Where those that follow are.
@@ -21,7 +20,7 @@ pub(crate) struct Step<'a, V: Marked, A: Allocator> {
     pub(crate) visited: u8,
 }
 
-impl<V: Marked, A: Allocator> Tree<V, A> {
+impl<V: Drop, A: Allocator> Tree<V, A> {
     /// The first entry that covers the key.
     pub(crate) fn next_covering(&self, key: Prefix) -> Step<'_, V, A>
         ensures covering { all_covering key self.now.entries ≡ option_to_list (option_map seen result.entry) ++ covering_in key result.below }
@@ -83,7 +82,7 @@ impl<V: Marked, A: Allocator> Tree<V, A> {
     }
 }
 
-impl<V: Marked, A: Allocator> Tree<V, A> {
+impl<V: Drop, A: Allocator> Tree<V, A> {
     /// The part whose entries are just those that the key covers, if there are any.
     pub(crate) fn covered_part(&self, key: Prefix) -> Option<&Tree<V, A>>
         ensures { left_in result None ≡ all_covered key self.now.entries }
@@ -100,7 +99,7 @@ impl<V: Marked, A: Allocator> Tree<V, A> {
     }
 }
 
-impl<V: Marked, A: Allocator> Node<V, A> {
+impl<V: Drop, A: Allocator> Node<V, A> {
     // The entry of the node.
     fn entry(&self) -> Option<(Prefix, &V)>
         ensures { option_to_list (option_map seen result) ≡ here self.now.prefix self.now.value }

@@ -6,7 +6,6 @@ ghost use Rattle.net_prefix.specs.declared.prefix.Prefix.{Prefix};
 ghost use Rattle.prefix_trie.specs.CoverWalks.{all_covering, covers, nodes_towards};
 ghost use Rattle.prefix_trie.specs.TrieWalks.{seen};
 
-use crate::marks::Marked;
 use crate::node::Tree;
 use net_prefix::Prefix;
 use std::alloc::{Allocator, Global};
@@ -15,13 +14,13 @@ use std::marker::Model;
 /// The entries whose prefixes cover a prefix, the shortest first. It is seen as those still to come, the count of
 /// the nodes that were looked at, and that of the nodes still to be looked at.
 #[derive(Drop)]
-pub struct Covering<'a, V: Marked, A: Allocator = Global> {
+pub struct Covering<'a, V: Drop, A: Allocator = Global> {
     part: Option<&'a Tree<V, A>>,
     prefix: Prefix,
     visited: u8,
 }
 
-impl<'a, V: Marked, A: Allocator> Model for Covering<'a, V, A> {
+impl<'a, V: Drop, A: Allocator> Model for Covering<'a, V, A> {
     ghost use Rattle.std.specs.Prelude.{◌+◌, ◌≤◌};
     ghost use Rattle.prefix_trie.specs.CoverWalks.{CoverWalk, covering_in, depth_in, nodes_in};
 
@@ -32,7 +31,7 @@ impl<'a, V: Marked, A: Allocator> Model for Covering<'a, V, A> {
     ghost invariant = { λ c. c.visited + depth_in c.part ≤ 33 };
 }
 
-impl<'a, V: Marked, A: Allocator> Covering<'a, V, A> {
+impl<'a, V: Drop, A: Allocator> Covering<'a, V, A> {
     // Of a trie's entries.
     pub(crate) fn new(part: &'a Tree<V, A>, prefix: Prefix) -> Self
         ensures left { result.left ≡ all_covering prefix part.now.entries }
@@ -55,7 +54,7 @@ impl<'a, V: Marked, A: Allocator> Covering<'a, V, A> {
     }
 }
 
-impl<'a, V: Marked, A: Allocator> Iterator for Covering<'a, V, A> {
+impl<'a, V: Drop, A: Allocator> Iterator for Covering<'a, V, A> {
     type Item = (Prefix, &'a V);
 
     ghost next_gives = { YieldsFirstBy seen (λ walk. walk.left) };

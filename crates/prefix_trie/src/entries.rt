@@ -4,7 +4,6 @@ ghost use Rattle.std.specs.Iterator.{YieldsFirstBy, item_count};
 ghost use Rattle.prefix_trie.specs.CoverWalks.{all_covered};
 ghost use Rattle.prefix_trie.specs.TrieWalks.{seen};
 
-use crate::marks::Marked;
 use crate::node::Tree;
 use net_prefix::Prefix;
 use std::alloc::{Allocator, Global};
@@ -13,14 +12,14 @@ use std::marker::Model;
 /// Entries of a trie, in the order of prefixes. It is seen as those still to come. Each is found from the one before
 /// it, on a way down of at most 33 nodes and a second one of at most 33.
 #[derive(Drop)]
-pub struct Entries<'a, V: Marked, A: Allocator = Global> {
+pub struct Entries<'a, V: Drop, A: Allocator = Global> {
     // The part of the trie that they are in, if one is left.
     part: Option<&'a Tree<V, A>>,
     // The prefix of the last one that came.
     last: Option<Prefix>,
 }
 
-impl<'a, V: Marked, A: Allocator> Model for Entries<'a, V, A> {
+impl<'a, V: Drop, A: Allocator> Model for Entries<'a, V, A> {
     ghost use Rattle.std.specs.Prelude.{List};
     ghost use Rattle.net_prefix.specs.declared.prefix.Prefix.{Prefix};
     ghost use Rattle.prefix_trie.specs.TrieWalks.{left_in};
@@ -30,7 +29,7 @@ impl<'a, V: Marked, A: Allocator> Model for Entries<'a, V, A> {
     ghost view = { λ e. left_in e.part e.last };
 }
 
-impl<'a, V: Marked, A: Allocator> Entries<'a, V, A> {
+impl<'a, V: Drop, A: Allocator> Entries<'a, V, A> {
     // Of a whole part.
     pub(crate) fn all(part: &'a Tree<V, A>) -> Self
         ensures { result ≡ part.now.entries }
@@ -50,7 +49,7 @@ impl<'a, V: Marked, A: Allocator> Entries<'a, V, A> {
     }
 }
 
-impl<'a, V: Marked, A: Allocator> Iterator for Entries<'a, V, A> {
+impl<'a, V: Drop, A: Allocator> Iterator for Entries<'a, V, A> {
     type Item = (Prefix, &'a V);
 
     ghost next_gives = { YieldsFirstBy seen (λ left. left) };

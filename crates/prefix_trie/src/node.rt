@@ -4,12 +4,11 @@ ghost use Rattle.std.specs.Fn.{FnOnceReturnsAtMut};
 ghost use Rattle.std.specs.Option.{option_copied};
 ghost use Rattle.net_prefix.specs.Cover.{block_size};
 ghost use Rattle.net_prefix.specs.declared.prefix.Prefix.{Prefix};
-ghost use Rattle.prefix_trie.specs.Nodes.{all_of, any_meets, shape, AreParts, AreSides, IsInserted, IsPut, IsRemoved, IsTrie, IsUpdated, ChangesValue, RootIs};
+ghost use Rattle.prefix_trie.specs.Nodes.{all_of, shape, AreParts, AreSides, IsInserted, IsPut, IsRemoved, IsTrie, IsUpdated, ChangesValue, RootIs};
 ghost use Rattle.prefix_trie.specs.Places.{IsInside};
 ghost use Rattle.prefix_trie.specs.Shape.{no_shape, one_shape};
 ghost use Rattle.prefix_trie.specs.TrieMap.{found, with_entry, without};
 
-use crate::marks::{MarkSet, Marked};
 use crate::places::{Place, fork_of, place_of};
 use net_prefix::Prefix;
 use std::alloc::{AllocFailed, Allocator};
@@ -19,29 +18,27 @@ use std::mem;
 /// What is kept below one prefix.
 #[cycle(tree)]
 #[derive(Drop)]
-pub(crate) struct Tree<V: Marked, A: Allocator> {
+pub(crate) struct Tree<V: Drop, A: Allocator> {
     pub(crate) root: Link<V, A>,
 }
 
 #[cycle(tree)]
 #[derive(Drop)]
-pub(crate) enum Link<V: Marked, A: Allocator> {
+pub(crate) enum Link<V: Drop, A: Allocator> {
     Empty,
     Fork(Box<Node<V, A>, A>),
 }
 
 #[cycle(tree)]
 #[derive(Drop)]
-pub(crate) struct Node<V: Marked, A: Allocator> {
+pub(crate) struct Node<V: Drop, A: Allocator> {
     pub(crate) prefix: Prefix,
     pub(crate) value: Option<V>,
-    // The marks of the value and of all values below.
-    pub(crate) union: V::Marks,
     pub(crate) low: Tree<V, A>,
     pub(crate) high: Tree<V, A>,
 }
 
-impl<V: Marked, A: Allocator> Model for Tree<V, A> {
+impl<V: Drop, A: Allocator> Model for Tree<V, A> {
     ghost use Rattle.prefix_trie.specs.Shape.{Shape};
 
     ghost Value = { Shape V };
@@ -50,16 +47,16 @@ impl<V: Marked, A: Allocator> Model for Tree<V, A> {
 
     ghost view = { λ t. shape t.root };
 
-    ghost invariant = { λ t. IsTrie V.marks_of V.Marks.meet t.root };
+    ghost invariant = { λ t. IsTrie t.root };
 
     ghost size = { λ s. depth s.root };
 
     ghost use Rattle.prefix_trie.specs.Falls.{falls};
 
-    ghost size_decreases = { λ t h. falls (record { marks_of = V.marks_of }) (record { meet = V.Marks.meet }) (record { dealloc_token = A.dealloc_token }) t.root h };
+    ghost size_decreases = { λ t h. falls (record { dealloc_token = A.dealloc_token }) t.root h };
 }
 
-impl<V: Marked, A: Allocator> Tree<V, A> {
+impl<V: Drop, A: Allocator> Tree<V, A> {
     /// Nothing.
     pub(crate) fn empty() -> Self
         ensures { result ≡ no_shape }
@@ -81,35 +78,10 @@ impl<V: Marked, A: Allocator> Tree<V, A> {
             },
         }
     }
-
-    /// The marks of all values.
-    pub(crate) fn union(&self) -> V::Marks
-        ensures { (marks : V.Marks) → V.Marks.meet result marks ≡ any_meets V.marks_of V.Marks.meet self.now.entries marks }
-    {
-        match &self.root {
-            Link::Empty => V::Marks::none(),
-            Link::Fork(node) => node.union,
-        }
-    }
-}
-
-// The marks of a value, and of all values below it.
-fn union_of<V: Marked, A: Allocator>(
-    value: &Option<V>,
-    low: &Tree<V, A>,
-    high: &Tree<V, A>,
-) -> V::Marks
-    ensures { (prefix : Prefix) (marks : V.Marks) → V.Marks.meet result marks ≡ any_meets V.marks_of V.Marks.meet (all_of prefix value.now low.now high.now) marks }
-{
-    let below = low.union().join(high.union());
-    match value {
-        Some(value) => value.marks().join(below),
-        None => below,
-    }
 }
 
 // A node without sides.
-fn bare<V: Marked, A: Allocator + Clone>(
+fn bare<V: Drop, A: Allocator + Clone>(
     alloc: &A,
     prefix: Prefix,
     value: Option<V>,
@@ -124,7 +96,6 @@ fn bare<V: Marked, A: Allocator + Clone>(
     let node = Node {
         prefix,
         value,
-        union: V::Marks::none(),
         low: Tree::empty(),
         high: Tree::empty(),
     };
@@ -137,7 +108,7 @@ fn bare<V: Marked, A: Allocator + Clone>(
 }
 
 // The value of a node that goes.
-fn value_in<V: Marked, A: Allocator>(node: Node<V, A>) -> Option<V>
+fn value_in<V: Drop, A: Allocator>(node: Node<V, A>) -> Option<V>
     ensures { result ≡ node.value }
 {
     let Node { value, .. } = node;
@@ -145,7 +116,7 @@ fn value_in<V: Marked, A: Allocator>(node: Node<V, A>) -> Option<V>
 }
 
 // The node with these sides.
-fn joined<V: Marked, A: Allocator>(
+fn joined<V: Drop, A: Allocator>(
     mut node: Box<Node<V, A>, A>,
     low: Tree<V, A>,
     high: Tree<V, A>,
@@ -159,20 +130,19 @@ fn joined<V: Marked, A: Allocator>(
     gathered(node)
 }
 
-// The node, with the marks of what is in it.
-fn gathered<V: Marked, A: Allocator>(mut node: Box<Node<V, A>, A>) -> Tree<V, A>
+// The node, as a part of a trie.
+fn gathered<V: Drop, A: Allocator>(node: Box<Node<V, A>, A>) -> Tree<V, A>
     requires { AreParts node.value.prefix node.value.value node.value.low node.value.high }
     ensures entries { result.entries ≡ all_of node.value.prefix node.value.value node.value.low node.value.high }
     ensures root { result.root ≡ Some node.value.prefix }
 {
-    node.union = union_of(&node.value, &node.low, &node.high);
     Tree {
         root: Link::Fork(node),
     }
 }
 
 // The node, or what it has on its sides where it has become needless.
-fn mended<V: Marked, A: Allocator>(node: Box<Node<V, A>, A>) -> Tree<V, A>
+fn mended<V: Drop, A: Allocator>(node: Box<Node<V, A>, A>) -> Tree<V, A>
     requires { AreSides node.value.prefix node.value.value node.value.low node.value.high }
     ensures entries { result.entries ≡ all_of node.value.prefix node.value.value node.value.low node.value.high }
     ensures inside { (base len : ℕ) → IsInside base len node.value.prefix → RootIs (IsInside base len) result.root }
@@ -190,11 +160,11 @@ fn mended<V: Marked, A: Allocator>(node: Box<Node<V, A>, A>) -> Tree<V, A>
     gathered(node)
 }
 
-impl<V: Marked, A: Allocator> Tree<V, A> {
+impl<V: Drop, A: Allocator> Tree<V, A> {
     // Takes it apart.
     fn open(self) -> Link<V, A>
         ensures same { shape result ≡ self }
-        ensures whole { IsTrie V.marks_of V.Marks.meet result }
+        ensures whole { IsTrie result }
     {
         self.root
     }
@@ -258,7 +228,7 @@ fn changed<V, F: FnOnce(&mut V)>(value: &mut Option<V>, change: F) -> bool
     }
 }
 
-impl<V: Marked, A: Allocator> Tree<V, A> {
+impl<V: Drop, A: Allocator> Tree<V, A> {
     /// Changes the value at the prefix, if there is one.
     pub(crate) fn update<F: FnOnce(&mut V)>(&mut self, key: Prefix, change: F) -> bool
         requires { F.IsAlwaysCallable change }
@@ -291,7 +261,7 @@ impl<V: Marked, A: Allocator> Tree<V, A> {
     }
 }
 
-impl<V: Marked, A: Allocator + Clone> Tree<V, A> {
+impl<V: Drop, A: Allocator + Clone> Tree<V, A> {
     /// Puts the value at the prefix, and answers the one before.
     pub(crate) fn insert(
         &mut self,
@@ -410,7 +380,7 @@ impl<V: Marked, A: Allocator + Clone> Tree<V, A> {
 }
 
 // A node with a value and without sides.
-fn held<V: Marked, A: Allocator + Clone>(
+fn held<V: Drop, A: Allocator + Clone>(
     alloc: &A,
     prefix: Prefix,
     value: V,
@@ -429,7 +399,7 @@ fn held<V: Marked, A: Allocator + Clone>(
 }
 
 // One value alone.
-fn leaf<V: Marked, A: Allocator + Clone>(
+fn leaf<V: Drop, A: Allocator + Clone>(
     alloc: &A,
     prefix: Prefix,
     value: V,
@@ -442,7 +412,7 @@ fn leaf<V: Marked, A: Allocator + Clone>(
 }
 
 // A node without a value and without sides, and one value alone.
-fn forked<V: Marked, A: Allocator + Clone>(
+fn forked<V: Drop, A: Allocator + Clone>(
     alloc: &A,
     fork: Prefix,
     prefix: Prefix,

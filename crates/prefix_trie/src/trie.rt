@@ -1,14 +1,13 @@
 //! A map from prefixes to values.
 ghost use Rattle.std.specs.Prelude.{◌≡◌, ◌+◌, ◌^◌, ◌<◌, ◌≤◌, [], None, length, IfOk, IfErr, OnErr, is_ok, if◌then◌else◌};
 ghost use Rattle.std.specs.Option.{option_copied};
-ghost use Rattle.prefix_trie.specs.TrieWalks.{all_after, all_marked, first_key};
+ghost use Rattle.prefix_trie.specs.TrieWalks.{all_after, first_key};
 ghost use Rattle.std.specs.Fn.{FnOnceReturnsAtMut};
 ghost use Rattle.prefix_trie.specs.CoverWalks.{all_covered, all_covering, nodes_covering, nodes_towards};
 ghost use Rattle.prefix_trie.specs.TrieMap.{IsRising, Updates, found, with_entry, without};
 
 use crate::covering::Covering;
 use crate::entries::Entries;
-use crate::marks::Marked;
 use crate::node::Tree;
 use net_prefix::Prefix;
 use std::alloc::{AllocFailed, Allocator, Global};
@@ -16,13 +15,13 @@ use std::marker::Model;
 
 /// A map from prefixes to values. Its entries stand in the order of prefixes.
 #[derive(Drop)]
-pub struct Trie<V: Marked, A: Allocator = Global> {
+pub struct Trie<V: Drop, A: Allocator = Global> {
     tree: Tree<V, A>,
     count: usize,
     alloc: A,
 }
 
-impl<V: Marked, A: Allocator> Model for Trie<V, A> {
+impl<V: Drop, A: Allocator> Model for Trie<V, A> {
     ghost use Rattle.std.specs.Prelude.{List};
     ghost use Rattle.net_prefix.specs.declared.prefix.Prefix.{Prefix};
     ghost use Rattle.prefix_trie.specs.TrieMap.{IsCounted};
@@ -34,7 +33,7 @@ impl<V: Marked, A: Allocator> Model for Trie<V, A> {
     ghost invariant = { λ t. IsCounted t.count t.tree.entries };
 }
 
-impl<V: Marked, A: Allocator> Trie<V, A> {
+impl<V: Drop, A: Allocator> Trie<V, A> {
     /// No entries.
     pub fn new(alloc: A) -> Self
         ensures { result ≡ [] }
@@ -75,16 +74,6 @@ impl<V: Marked, A: Allocator> Trie<V, A> {
         }
     }
 
-    /// The least prefix above the given one, or of all, whose value has one of the marks.
-    pub fn marked_after(&self, prefix: Option<Prefix>, marks: V::Marks) -> Option<Prefix>
-        ensures { result ≡ first_key (all_marked V.marks_of V.Marks.meet marks (all_after prefix self.now)) }
-    {
-        match prefix {
-            Some(prefix) => self.tree.above_marked(prefix, marks),
-            None => self.tree.first_marked(marks),
-        }
-    }
-
     /// The entries whose prefixes cover the prefix, the shortest first. The walk looks at the nodes that cover it, and
     /// at one more at most, where the way ends.
     pub fn covering(&self, prefix: &Prefix) -> Covering<'_, V, A>
@@ -112,7 +101,7 @@ impl<V: Marked, A: Allocator> Trie<V, A> {
         Entries::all(&self.tree)
     }
 
-    /// Changes the value at the prefix, if there is one. It takes no memory, and a value's marks may change.
+    /// Changes the value at the prefix, if there is one. It takes no memory.
     pub fn update<F: FnOnce(&mut V)>(&mut self, prefix: &Prefix, change: F) -> bool
         requires { F.IsAlwaysCallable change }
         ensures { Updates (λ v w. FnOnceReturnsAtMut F.FnOnce change v tt w) result (found self.old prefix.now) self.old self.new prefix.now }
@@ -142,7 +131,7 @@ impl<V: Marked, A: Allocator> Trie<V, A> {
     }
 }
 
-impl<V: Marked, A: Allocator + Clone> Trie<V, A> {
+impl<V: Drop, A: Allocator + Clone> Trie<V, A> {
     /// Puts the value at the prefix, and answers the one before. Where there is none and no memory for the new one,
     /// the value comes back.
     pub fn insert(&mut self, prefix: Prefix, value: V) -> Result<Option<V>, AllocFailed<V>>

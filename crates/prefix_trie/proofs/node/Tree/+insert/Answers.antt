@@ -5,20 +5,15 @@ use Rattle.prefix_trie.proofs.node.Tree.+insert.Goals as goal
 
 pub gathered-requires : goal.gathered-requires
 gathered-requires g t c =
-    let marks_of = g.V.Marked.marks_of in
-    let meet = g.V.Marks.MarkSet.meet in
     let n = c.in-Fork.node.value in
-    let f = opened marks_of meet c.replace.result c.in-Fork.node c.in-Fork.ensures.same c.in-Fork.ensures.whole in
-    let seen = seen_at marks_of meet c.replace.result c.args.self.now n f c.replace.ensures.value in
+    let f = opened c.replace.result c.in-Fork.node c.in-Fork.ensures.same c.in-Fork.ensures.whole in
     rw (c.deref_mut.ensures.value, c.replace-before.ensures.after) (parts_here n.prefix n.value c.args.value n.low n.high f.parts)
 
 pub returns-in-Same : goal.returns-in-Same
 returns-in-Same g t c =
-    let marks_of = g.V.Marked.marks_of in
-    let meet = g.V.Marks.MarkSet.meet in
     let n = c.in-Fork.node.value in
-    let f = opened marks_of meet c.replace.result c.in-Fork.node c.in-Fork.ensures.same c.in-Fork.ensures.whole in
-    let seen = seen_at marks_of meet c.replace.result c.args.self.now n f c.replace.ensures.value in
+    let f = opened c.replace.result c.in-Fork.node c.in-Fork.ensures.same c.in-Fork.ensures.whole in
+    let seen = seen_at c.replace.result c.args.self.now n f c.replace.ensures.value in
     let at = rw (c.in-Same.is, c.deref.ensures) at c.place_of.ensures in
     let before = c.replace-before.ensures.value ∙ ap (λ m. m.value) c.deref_mut.ensures.value in
     let entries = rw (c.deref_mut.ensures.value, c.replace-before.ensures.after) at c.gathered.ensures.entries in
@@ -27,22 +22,17 @@ returns-in-Same g t c =
 
 pub gathered-requires-in-Low : goal.gathered-requires-in-Low
 gathered-requires-in-Low g t c =
-    let marks_of = g.V.Marked.marks_of in
-    let meet = g.V.Marks.MarkSet.meet in
     let n = c.in-Fork.node.value in
-    let f = opened marks_of meet c.replace.result c.in-Fork.node c.in-Fork.ensures.same c.in-Fork.ensures.whole in
-    let seen = seen_at marks_of meet c.replace.result c.args.self.now n f c.replace.ensures.value in
+    let f = opened c.replace.result c.in-Fork.node c.in-Fork.ensures.same c.in-Fork.ensures.whole in
     let at = rw (c.in-Low.is, c.deref.ensures) at c.place_of.ensures in
     let put = rw c.deref_mut-in-Low.ensures.value at c.insert-result.ensures in
     rw c.deref_mut-in-Low.ensures.value (parts_low c.insert-result.result n.prefix n.value c.args.key c.args.value n.low c.insert-result.new.self n.high f.parts at put)
 
 pub returns-in-Low : goal.returns-in-Low
 returns-in-Low g t c =
-    let marks_of = g.V.Marked.marks_of in
-    let meet = g.V.Marks.MarkSet.meet in
     let n = c.in-Fork.node.value in
-    let f = opened marks_of meet c.replace.result c.in-Fork.node c.in-Fork.ensures.same c.in-Fork.ensures.whole in
-    let seen = seen_at marks_of meet c.replace.result c.args.self.now n f c.replace.ensures.value in
+    let f = opened c.replace.result c.in-Fork.node c.in-Fork.ensures.same c.in-Fork.ensures.whole in
+    let seen = seen_at c.replace.result c.args.self.now n f c.replace.ensures.value in
     let at = rw (c.in-Low.is, c.deref.ensures) at c.place_of.ensures in
     let put = rw c.deref_mut-in-Low.ensures.value at c.insert-result.ensures in
     let entries = rw c.deref_mut-in-Low.ensures.value at c.gathered-in-Low.ensures.entries in
@@ -51,22 +41,17 @@ returns-in-Low g t c =
 
 pub gathered-requires-in-High : goal.gathered-requires-in-High
 gathered-requires-in-High g t c =
-    let marks_of = g.V.Marked.marks_of in
-    let meet = g.V.Marks.MarkSet.meet in
     let n = c.in-Fork.node.value in
-    let f = opened marks_of meet c.replace.result c.in-Fork.node c.in-Fork.ensures.same c.in-Fork.ensures.whole in
-    let seen = seen_at marks_of meet c.replace.result c.args.self.now n f c.replace.ensures.value in
+    let f = opened c.replace.result c.in-Fork.node c.in-Fork.ensures.same c.in-Fork.ensures.whole in
     let at = rw (c.in-High.is, c.deref.ensures) at c.place_of.ensures in
     let put = rw c.deref_mut-in-High.ensures.value at c.insert-result-in-High.ensures in
     rw c.deref_mut-in-High.ensures.value (parts_high c.insert-result-in-High.result n.prefix n.value c.args.key c.args.value n.low n.high c.insert-result-in-High.new.self f.parts at put)
 
 pub returns-in-High : goal.returns-in-High
 returns-in-High g t c =
-    let marks_of = g.V.Marked.marks_of in
-    let meet = g.V.Marks.MarkSet.meet in
     let n = c.in-Fork.node.value in
-    let f = opened marks_of meet c.replace.result c.in-Fork.node c.in-Fork.ensures.same c.in-Fork.ensures.whole in
-    let seen = seen_at marks_of meet c.replace.result c.args.self.now n f c.replace.ensures.value in
+    let f = opened c.replace.result c.in-Fork.node c.in-Fork.ensures.same c.in-Fork.ensures.whole in
+    let seen = seen_at c.replace.result c.args.self.now n f c.replace.ensures.value in
     let at = rw (c.in-High.is, c.deref.ensures) at c.place_of.ensures in
     let put = rw c.deref_mut-in-High.ensures.value at c.insert-result-in-High.ensures in
     let entries = rw c.deref_mut-in-High.ensures.value at c.gathered-in-High.ensures.entries in
@@ -75,55 +60,45 @@ returns-in-High g t c =
 
 pub put_over_low-requires : goal.put_over_low-requires
 put_over_low-requires g t c =
-    let marks_of = g.V.Marked.marks_of in
-    let meet = g.V.Marks.MarkSet.meet in
     let n = c.in-Fork.node.value in
-    let f = opened marks_of meet c.replace.result c.in-Fork.node c.in-Fork.ensures.same c.in-Fork.ensures.whole in
-    let seen = seen_at marks_of meet c.replace.result c.args.self.now n f c.replace.ensures.value in
+    let f = opened c.replace.result c.in-Fork.node c.in-Fork.ensures.same c.in-Fork.ensures.whole in
+    let seen = seen_at c.replace.result c.args.self.now n f c.replace.ensures.value in
     let at = rw (c.in-OverLow.is, c.deref.ensures) at c.place_of.ensures in
     let again : IsSeen c.gathered-in-OverLow.result n.prefix n.value n.low n.high = record { entries = c.gathered-in-OverLow.ensures.entries; root = c.gathered-in-OverLow.ensures.root } in
     parts_over_low c.args.self.now c.gathered-in-OverLow.result n.prefix n.value n.low n.high seen again f.parts c.args.key c.args.value at
 
 pub returns-in-OverLow : goal.returns-in-OverLow
 returns-in-OverLow g t c =
-    let marks_of = g.V.Marked.marks_of in
-    let meet = g.V.Marks.MarkSet.meet in
     let n = c.in-Fork.node.value in
-    let f = opened marks_of meet c.replace.result c.in-Fork.node c.in-Fork.ensures.same c.in-Fork.ensures.whole in
-    let seen = seen_at marks_of meet c.replace.result c.args.self.now n f c.replace.ensures.value in
+    let f = opened c.replace.result c.in-Fork.node c.in-Fork.ensures.same c.in-Fork.ensures.whole in
+    let seen = seen_at c.replace.result c.args.self.now n f c.replace.ensures.value in
     let at = rw (c.in-OverLow.is, c.deref.ensures) at c.place_of.ensures in
     let again : IsSeen c.gathered-in-OverLow.result n.prefix n.value n.low n.high = record { entries = c.gathered-in-OverLow.ensures.entries; root = c.gathered-in-OverLow.ensures.root } in
     inserted_over_low c.args.self.now c.gathered-in-OverLow.result n.prefix n.value n.low n.high seen again f.parts c.put_over_low.result c.args.key c.args.value c.put_over_low.new.self at c.put_over_low.ensures
 
 pub put_over_high-requires : goal.put_over_high-requires
 put_over_high-requires g t c =
-    let marks_of = g.V.Marked.marks_of in
-    let meet = g.V.Marks.MarkSet.meet in
     let n = c.in-Fork.node.value in
-    let f = opened marks_of meet c.replace.result c.in-Fork.node c.in-Fork.ensures.same c.in-Fork.ensures.whole in
-    let seen = seen_at marks_of meet c.replace.result c.args.self.now n f c.replace.ensures.value in
+    let f = opened c.replace.result c.in-Fork.node c.in-Fork.ensures.same c.in-Fork.ensures.whole in
+    let seen = seen_at c.replace.result c.args.self.now n f c.replace.ensures.value in
     let at = rw (c.in-OverHigh.is, c.deref.ensures) at c.place_of.ensures in
     let again : IsSeen c.gathered-in-OverHigh.result n.prefix n.value n.low n.high = record { entries = c.gathered-in-OverHigh.ensures.entries; root = c.gathered-in-OverHigh.ensures.root } in
     parts_over_high c.args.self.now c.gathered-in-OverHigh.result n.prefix n.value n.low n.high seen again f.parts c.args.key c.args.value at
 
 pub returns-in-OverHigh : goal.returns-in-OverHigh
 returns-in-OverHigh g t c =
-    let marks_of = g.V.Marked.marks_of in
-    let meet = g.V.Marks.MarkSet.meet in
     let n = c.in-Fork.node.value in
-    let f = opened marks_of meet c.replace.result c.in-Fork.node c.in-Fork.ensures.same c.in-Fork.ensures.whole in
-    let seen = seen_at marks_of meet c.replace.result c.args.self.now n f c.replace.ensures.value in
+    let f = opened c.replace.result c.in-Fork.node c.in-Fork.ensures.same c.in-Fork.ensures.whole in
+    let seen = seen_at c.replace.result c.args.self.now n f c.replace.ensures.value in
     let at = rw (c.in-OverHigh.is, c.deref.ensures) at c.place_of.ensures in
     let again : IsSeen c.gathered-in-OverHigh.result n.prefix n.value n.low n.high = record { entries = c.gathered-in-OverHigh.ensures.entries; root = c.gathered-in-OverHigh.ensures.root } in
     inserted_over_high c.args.self.now c.gathered-in-OverHigh.result n.prefix n.value n.low n.high seen again f.parts c.put_over_high.result c.args.key c.args.value c.put_over_high.new.self at c.put_over_high.ensures
 
 pub put_before-requires : goal.put_before-requires
 put_before-requires g t c =
-    let marks_of = g.V.Marked.marks_of in
-    let meet = g.V.Marks.MarkSet.meet in
     let n = c.in-Fork.node.value in
-    let f = opened marks_of meet c.replace.result c.in-Fork.node c.in-Fork.ensures.same c.in-Fork.ensures.whole in
-    let seen = seen_at marks_of meet c.replace.result c.args.self.now n f c.replace.ensures.value in
+    let f = opened c.replace.result c.in-Fork.node c.in-Fork.ensures.same c.in-Fork.ensures.whole in
+    let seen = seen_at c.replace.result c.args.self.now n f c.replace.ensures.value in
     let at = rw (c.in-Before.is, c.deref.ensures) at c.place_of.ensures in
     let again : IsSeen c.gathered-in-Before.result n.prefix n.value n.low n.high = record { entries = c.gathered-in-Before.ensures.entries; root = c.gathered-in-Before.ensures.root } in
     let low = c.fork_of-fork.ensures.low in
@@ -132,11 +107,9 @@ put_before-requires g t c =
 
 pub returns-in-Before : goal.returns-in-Before
 returns-in-Before g t c =
-    let marks_of = g.V.Marked.marks_of in
-    let meet = g.V.Marks.MarkSet.meet in
     let n = c.in-Fork.node.value in
-    let f = opened marks_of meet c.replace.result c.in-Fork.node c.in-Fork.ensures.same c.in-Fork.ensures.whole in
-    let seen = seen_at marks_of meet c.replace.result c.args.self.now n f c.replace.ensures.value in
+    let f = opened c.replace.result c.in-Fork.node c.in-Fork.ensures.same c.in-Fork.ensures.whole in
+    let seen = seen_at c.replace.result c.args.self.now n f c.replace.ensures.value in
     let at = rw (c.in-Before.is, c.deref.ensures) at c.place_of.ensures in
     let again : IsSeen c.gathered-in-Before.result n.prefix n.value n.low n.high = record { entries = c.gathered-in-Before.ensures.entries; root = c.gathered-in-Before.ensures.root } in
     let low = c.fork_of-fork.ensures.low in
@@ -145,11 +118,9 @@ returns-in-Before g t c =
 
 pub put_behind-requires : goal.put_behind-requires
 put_behind-requires g t c =
-    let marks_of = g.V.Marked.marks_of in
-    let meet = g.V.Marks.MarkSet.meet in
     let n = c.in-Fork.node.value in
-    let f = opened marks_of meet c.replace.result c.in-Fork.node c.in-Fork.ensures.same c.in-Fork.ensures.whole in
-    let seen = seen_at marks_of meet c.replace.result c.args.self.now n f c.replace.ensures.value in
+    let f = opened c.replace.result c.in-Fork.node c.in-Fork.ensures.same c.in-Fork.ensures.whole in
+    let seen = seen_at c.replace.result c.args.self.now n f c.replace.ensures.value in
     let at = rw (c.in-Behind.is, c.deref.ensures) at c.place_of.ensures in
     let again : IsSeen c.gathered-in-Behind.result n.prefix n.value n.low n.high = record { entries = c.gathered-in-Behind.ensures.entries; root = c.gathered-in-Behind.ensures.root } in
     let low = rw c.deref-in-Behind.ensures at c.fork_of-fork-in-Behind.ensures.low in
@@ -158,11 +129,9 @@ put_behind-requires g t c =
 
 pub returns-in-Behind : goal.returns-in-Behind
 returns-in-Behind g t c =
-    let marks_of = g.V.Marked.marks_of in
-    let meet = g.V.Marks.MarkSet.meet in
     let n = c.in-Fork.node.value in
-    let f = opened marks_of meet c.replace.result c.in-Fork.node c.in-Fork.ensures.same c.in-Fork.ensures.whole in
-    let seen = seen_at marks_of meet c.replace.result c.args.self.now n f c.replace.ensures.value in
+    let f = opened c.replace.result c.in-Fork.node c.in-Fork.ensures.same c.in-Fork.ensures.whole in
+    let seen = seen_at c.replace.result c.args.self.now n f c.replace.ensures.value in
     let at = rw (c.in-Behind.is, c.deref.ensures) at c.place_of.ensures in
     let again : IsSeen c.gathered-in-Behind.result n.prefix n.value n.low n.high = record { entries = c.gathered-in-Behind.ensures.entries; root = c.gathered-in-Behind.ensures.root } in
     let low = rw c.deref-in-Behind.ensures at c.fork_of-fork-in-Behind.ensures.low in

@@ -6,23 +6,18 @@ use Rattle.prefix_trie.proofs.node.Tree.+update.Goals as goal
 
 pub gathered-requires : goal.gathered-requires
 gathered-requires g t c =
-    let marks_of = g.V.Marked.marks_of in
-    let meet = g.V.Marks.MarkSet.meet in
     let step = λ (v w : g.row.V.Denot). FnOnceReturnsAtMut g.F.FnOnce c.args.change v tt w in
     let n = c.in-Fork.node.value in
-    let f = opened marks_of meet c.replace.result c.in-Fork.node c.in-Fork.ensures.same c.in-Fork.ensures.whole in
-    let seen = seen_at marks_of meet c.replace.result c.args.self.now n f c.replace.ensures.value in
+    let f = opened c.replace.result c.in-Fork.node c.in-Fork.ensures.same c.in-Fork.ensures.whole in
     let h = rw c.deref_mut.ensures.value at c.changed-updated.ensures in
     rw c.deref_mut.ensures.value (parts_changed step c.changed-updated.result n.prefix n.value c.changed-updated.new.value n.low n.high f.parts h)
 
 pub returns-in-Same : goal.returns-in-Same
 returns-in-Same g t c =
-    let marks_of = g.V.Marked.marks_of in
-    let meet = g.V.Marks.MarkSet.meet in
     let step = λ (v w : g.row.V.Denot). FnOnceReturnsAtMut g.F.FnOnce c.args.change v tt w in
     let n = c.in-Fork.node.value in
-    let f = opened marks_of meet c.replace.result c.in-Fork.node c.in-Fork.ensures.same c.in-Fork.ensures.whole in
-    let seen = seen_at marks_of meet c.replace.result c.args.self.now n f c.replace.ensures.value in
+    let f = opened c.replace.result c.in-Fork.node c.in-Fork.ensures.same c.in-Fork.ensures.whole in
+    let seen = seen_at c.replace.result c.args.self.now n f c.replace.ensures.value in
     let at = rw (c.in-Same.is, c.deref.ensures) at c.place_of.ensures in
     let h = rw c.deref_mut.ensures.value at c.changed-updated.ensures in
     let entries = rw c.deref_mut.ensures.value at c.gathered.ensures.entries in
@@ -31,24 +26,19 @@ returns-in-Same g t c =
 
 pub gathered-requires-in-Low : goal.gathered-requires-in-Low
 gathered-requires-in-Low g t c =
-    let marks_of = g.V.Marked.marks_of in
-    let meet = g.V.Marks.MarkSet.meet in
     let step = λ (v w : g.row.V.Denot). FnOnceReturnsAtMut g.F.FnOnce c.args.change v tt w in
     let n = c.in-Fork.node.value in
-    let f = opened marks_of meet c.replace.result c.in-Fork.node c.in-Fork.ensures.same c.in-Fork.ensures.whole in
-    let seen = seen_at marks_of meet c.replace.result c.args.self.now n f c.replace.ensures.value in
+    let f = opened c.replace.result c.in-Fork.node c.in-Fork.ensures.same c.in-Fork.ensures.whole in
     let at = rw (c.in-Low.is, c.deref.ensures) at c.place_of.ensures in
     let u = rw c.deref_mut-in-Low.ensures.value at c.update-updated.ensures in
     rw c.deref_mut-in-Low.ensures.value (parts_low_updated step c.update-updated.result n.prefix n.value c.args.key n.low c.update-updated.new.self n.high f.parts at u)
 
 pub returns-in-Low : goal.returns-in-Low
 returns-in-Low g t c =
-    let marks_of = g.V.Marked.marks_of in
-    let meet = g.V.Marks.MarkSet.meet in
     let step = λ (v w : g.row.V.Denot). FnOnceReturnsAtMut g.F.FnOnce c.args.change v tt w in
     let n = c.in-Fork.node.value in
-    let f = opened marks_of meet c.replace.result c.in-Fork.node c.in-Fork.ensures.same c.in-Fork.ensures.whole in
-    let seen = seen_at marks_of meet c.replace.result c.args.self.now n f c.replace.ensures.value in
+    let f = opened c.replace.result c.in-Fork.node c.in-Fork.ensures.same c.in-Fork.ensures.whole in
+    let seen = seen_at c.replace.result c.args.self.now n f c.replace.ensures.value in
     let at = rw (c.in-Low.is, c.deref.ensures) at c.place_of.ensures in
     let u = rw c.deref_mut-in-Low.ensures.value at c.update-updated.ensures in
     let entries = rw c.deref_mut-in-Low.ensures.value at c.gathered-in-Low.ensures.entries in
@@ -57,24 +47,19 @@ returns-in-Low g t c =
 
 pub gathered-requires-in-High : goal.gathered-requires-in-High
 gathered-requires-in-High g t c =
-    let marks_of = g.V.Marked.marks_of in
-    let meet = g.V.Marks.MarkSet.meet in
     let step = λ (v w : g.row.V.Denot). FnOnceReturnsAtMut g.F.FnOnce c.args.change v tt w in
     let n = c.in-Fork.node.value in
-    let f = opened marks_of meet c.replace.result c.in-Fork.node c.in-Fork.ensures.same c.in-Fork.ensures.whole in
-    let seen = seen_at marks_of meet c.replace.result c.args.self.now n f c.replace.ensures.value in
+    let f = opened c.replace.result c.in-Fork.node c.in-Fork.ensures.same c.in-Fork.ensures.whole in
     let at = rw (c.in-High.is, c.deref.ensures) at c.place_of.ensures in
     let u = rw c.deref_mut-in-High.ensures.value at c.update-updated-in-High.ensures in
     rw c.deref_mut-in-High.ensures.value (parts_high_updated step c.update-updated-in-High.result n.prefix n.value c.args.key n.low n.high c.update-updated-in-High.new.self f.parts at u)
 
 pub returns-in-High : goal.returns-in-High
 returns-in-High g t c =
-    let marks_of = g.V.Marked.marks_of in
-    let meet = g.V.Marks.MarkSet.meet in
     let step = λ (v w : g.row.V.Denot). FnOnceReturnsAtMut g.F.FnOnce c.args.change v tt w in
     let n = c.in-Fork.node.value in
-    let f = opened marks_of meet c.replace.result c.in-Fork.node c.in-Fork.ensures.same c.in-Fork.ensures.whole in
-    let seen = seen_at marks_of meet c.replace.result c.args.self.now n f c.replace.ensures.value in
+    let f = opened c.replace.result c.in-Fork.node c.in-Fork.ensures.same c.in-Fork.ensures.whole in
+    let seen = seen_at c.replace.result c.args.self.now n f c.replace.ensures.value in
     let at = rw (c.in-High.is, c.deref.ensures) at c.place_of.ensures in
     let u = rw c.deref_mut-in-High.ensures.value at c.update-updated-in-High.ensures in
     let entries = rw c.deref_mut-in-High.ensures.value at c.gathered-in-High.ensures.entries in
@@ -83,11 +68,9 @@ returns-in-High g t c =
 
 pub returns-in-OverLow : goal.returns-in-OverLow
 returns-in-OverLow g t c =
-    let marks_of = g.V.Marked.marks_of in
-    let meet = g.V.Marks.MarkSet.meet in
     let step = λ (v w : g.row.V.Denot). FnOnceReturnsAtMut g.F.FnOnce c.args.change v tt w in
     let n = c.in-Fork.node.value in
-    let f = opened marks_of meet c.replace.result c.in-Fork.node c.in-Fork.ensures.same c.in-Fork.ensures.whole in
-    let seen = seen_at marks_of meet c.replace.result c.args.self.now n f c.replace.ensures.value in
+    let f = opened c.replace.result c.in-Fork.node c.in-Fork.ensures.same c.in-Fork.ensures.whole in
+    let seen = seen_at c.replace.result c.args.self.now n f c.replace.ensures.value in
     let stands = rw c.deref.ensures at c.place_of.ensures in
     updated_none step c.args.self.now c.gathered-in-OverLow.result n.prefix n.value n.low n.high seen c.args.key c.gathered-in-OverLow.ensures.entries c.gathered-in-OverLow.ensures.root (found_outside n.prefix n.value n.low n.high f.parts c.args.key c.place_of.result stands c.in-OverLow.is)
