@@ -1,4 +1,4 @@
-use Rattle.std.proofs.Common.{◌≡◌, ◌≤◌, ◌<◌, ◌+◌, ◌*◌, Bool, true, false, ℕ, zero, suc, List, [], ◌∷◌, ◌++◌, length, take, drop, length-drop, length-take, nat_lt, if◌then◌else◌, IfSome, is_some, Option, Some, None, arith, refl, sym, ap, subst, ◌∙◌, append_assoc}
+use Rattle.std.proofs.Common.{◌≡◌, ◌≤◌, ◌<◌, ◌+◌, ◌*◌, Bool, true, false, ℕ, zero, suc, List, [], ◌∷◌, ◌++◌, length, take, drop, length-drop, length-take, nat_lt, if◌then◌else◌, IfSome, is_some, Option, Some, None, arith, refl, sym, ap, subst, ◌∙◌, append_assoc, append-nil}
 use Rattle.std.specs.Option.{option_map, option_and_then}
 use Rattle.std.proofs.lemmas.Bool.{ltb-false}
 use Rattle.std.proofs.lemmas.Option.{none-some, same_Some}
@@ -8,6 +8,7 @@ use Rattle.bgp_attr.specs.PathReading.{asns_in, has_zero, kind_at, path_at, path
 use Rattle.bgp_attr.specs.declared.as_path.SegmentKind.{SegmentKind}
 use Rattle.bgp_attr.specs.declared.peer.PeerKind.TheVariants.{External}
 use Rattle.net_prefix.specs.declared.asn.Asn.{Asn}
+use Rattle.bgp_attr.proofs.Splits.{no_octets, some_octets}
 
 -- How octets are read as a path.
 
@@ -148,6 +149,16 @@ pub behind-next : (front new : List PathSegment) (octets : List ℕ) (s : PathSe
 behind-next front new octets s rest whole h is so_far =
     ap (λ (segments : List PathSegment). behind segments (path_at rest)) is
     ∙ (sym (behind-behind front s (path_at rest)) ∙ (sym (ap (behind front) (path_at-some octets s rest h)) ∙ so_far))
+
+pub behind_nothing : (o : Option (List PathSegment)) → behind [] o ≡ o
+behind_nothing None = refl
+behind_nothing (Some path) = refl
+
+-- the end of a path, or of what is none
+pub behind_end : (front : List PathSegment) (octets : List ℕ) (empty : Bool) → segment_at octets ≡ None → empty ≡ (length octets == 0) → (if empty then Some front else None) ≡ behind front (path_at octets)
+behind_end front octets true h is =
+    ap (λ (segments : List PathSegment). Some segments) (sym (append-nil front)) ∙ sym (ap (behind front) (path_at-empty octets (no_octets octets true is refl)))
+behind_end front octets false h is = sym (ap (behind front) (path_at-none octets (some_octets octets false is refl) h))
 
 begins_behind : (asn : Asn) (s : PathSegment) (o : Option (List PathSegment)) (path : List PathSegment) → behind (s ∷ []) o ≡ Some path → begins_right (External asn) path ≡ is_sequence_from s.kind s.asns asn
 begins_behind asn s None path h = absurd cc

@@ -1,5 +1,5 @@
-use Rattle.std.proofs.Common.{◌≡◌, ◌≢◌, ◌≤◌, ◌<◌, ◌+◌, ◌*◌, ◌/◌, ◌%◌, Bool, true, false, cond, ℕ, zero, suc, List, [], ◌∷◌, ◌++◌, length, length-append, arith, refl, sym, ap, subst, ◌∙◌, append-nil}
-use Rattle.std.specs.Prelude.{◌==◌, ◌&&◌, bit_and, is_none, nat_lt, not}
+use Rattle.std.proofs.Common.{◌≡◌, ◌≢◌, ◌≤◌, ◌<◌, ◌*◌, ◌/◌, ◌%◌, Bool, true, false, cond, ℕ, zero, suc, List, [], ◌∷◌, ◌++◌, length, length-append, arith, refl, sym, ap, subst, ◌∙◌, append-nil}
+use Rattle.std.specs.Prelude.{◌==◌, ◌&&◌, bit_and, is_none, not}
 use Rattle.std.proofs.Math.Nat.{div-add-mod, mul-zero}
 use Rattle.std.proofs.lemmas.Bool.{eqb-true}
 use Rattle.std.proofs.lemmas.Map.Lookups.{exact_unsigned}
@@ -9,12 +9,12 @@ use Rattle.std.specs.Ordering.{match_ordering, nat_cmp}
 use Rattle.std.specs.declared.cmp.Ordering.{Ordering}
 use Rattle.std.specs.declared.cmp.Ordering.TheVariants.{Less, Equal, Greater}
 use Rattle.bgp_attr.specs.AttributeReading.{attributes_in}
-use Rattle.bgp_attr.specs.AttributeSpelling.{attribute_spelling, attributes_spelling, flags_in, header_spelling, is_in_part, unknown_flags, value_in}
+use Rattle.bgp_attr.specs.AttributeSpelling.{attributes_spelling, flags_in, header_spelling, is_in_part, unknown_flags, value_in}
 use Rattle.bgp_attr.specs.AttributeTable.{is_an_as, is_list_of, is_passed_on, octet_of, travels_by, type_of, types, unknown_codes}
 use Rattle.bgp_attr.specs.PathAttributes.{PathAttributes}
 use Rattle.bgp_attr.specs.ReceivedAttributes.{Attribute, IsAttribute, attribute_at, split_of, wholes}
-use Rattle.bgp_attr.specs.TravellingAttributes.{AreTravelling, IsAnAs, IsListOf, MayAllTravel, MayTravel}
-use Rattle.bgp_attr.specs.UnknownAttributes.{ArePassedOn, Unknown, is_kept, kept_behind, unknown_in, with_kept}
+use Rattle.bgp_attr.specs.TravellingAttributes.{AreTravelling, IsListOf, MayAllTravel, MayTravel}
+use Rattle.bgp_attr.specs.UnknownAttributes.{ArePassedOn, Unknown, is_kept, kept_behind, with_kept}
 use Rattle.bgp_attr.specs.declared.attribute_type.AttributeType.{AttributeType}
 use Rattle.bgp_attr.specs.declared.peer.PeerKind.{PeerKind}
 use Rattle.bgp_attr.proofs.AttributeSpellings.{all_types}

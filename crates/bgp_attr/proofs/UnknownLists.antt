@@ -13,7 +13,7 @@ use Rattle.std.specs.List.Sorted.{IsStrictlySortedBy}
 use Rattle.std.specs.Map.{keys_of, lookup}
 use Rattle.std.specs.Option.{option_and_then, option_or}
 use Rattle.std.specs.Ordering.{is_eq, match_ordering, nat_cmp, ordering_reverse}
-use Rattle.std.specs.Prelude.{◌==◌, nat_eq, slice_set, suc}
+use Rattle.std.specs.Prelude.{◌==◌, nat_eq, slice_set, suc, OnErr, OnOk, Result, Ok, Err}
 use Rattle.std.specs.declared.cmp.Ordering.{Ordering}
 use Rattle.std.specs.declared.cmp.Ordering.TheVariants.{Less, Equal, Greater}
 use Rattle.bgp_attr.specs.AttributeTable.{is_passed_on}
@@ -52,6 +52,12 @@ each_insert k v (e ∷ es) one all = each_if k v e es (nat_cmp k e.0) refl one a
 
 pub passed_on_insert : (k : ℕ) (v : List ℕ) (es : Unknown) → is_passed_on k v ≡ true → length v ≤ 65535 → ArePassedOn es → ArePassedOn (insert_entry nat_cmp es k v)
 passed_on_insert k v es passed short all = record { rising = sorted-insert_entry nat_cmp_total k v es all.rising; each = each_insert k v es (passed, short) all.each }
+
+-- also where memory was refused, and none came
+pub passed_on_put : {T E : Type 0} (k : ℕ) (v : List ℕ) (es new : Unknown) (result : Result T E) → is_passed_on k v ≡ true → length v ≤ 65535 → ArePassedOn es
+    → OnOk result (new ≡ insert_entry nat_cmp es k v) → OnErr result (new ≡ es) → ArePassedOn new
+passed_on_put k v es new (Ok value) passed short all put refused = subst ArePassedOn (sym put) (passed_on_insert k v es passed short all)
+passed_on_put k v es new (Err refusal) passed short all put refused = subst ArePassedOn (sym refused) all
 
 -- ---- they rise
 

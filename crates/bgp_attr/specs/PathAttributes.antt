@@ -1,8 +1,10 @@
 -- The attributes of an UPDATE (RFC 4271 section 5.1).
 use Rattle.std.specs.Prelude.{ℕ, ◌==◌, ◌&&◌, Bool, false, not, List, [], Option, Some, None, is_none, if◌then◌else◌}
+use Rattle.std.specs.Option.{option_map}
 use Rattle.bgp_attr.specs.AsPath.{PathSegment}
 use Rattle.bgp_attr.specs.PeerKinds.{is_external}
 use Rattle.bgp_attr.specs.UnknownAttributes.{Unknown}
+use Rattle.bgp_attr.specs.declared.aggregator.AggregatingSpeaker.{AggregatingSpeaker}
 use Rattle.bgp_attr.specs.declared.aggregator.Aggregator.{Aggregator}
 use Rattle.bgp_attr.specs.declared.attrs.Origin.{Origin}
 use Rattle.bgp_attr.specs.declared.attrs.Origin.TheVariants.{Igp, Egp, Incomplete}
@@ -20,6 +22,10 @@ pub record PathAttributes : Type 0 where
   pub atomic_aggregate : Bool
   pub aggregator : Option Aggregator
   pub unknown : Unknown
+
+-- an aggregator, of the speaker and whether it is partial
+abbrev pub aggregator_of : Option AggregatingSpeaker → Bool → Option Aggregator
+aggregator_of speaker partial = option_map (λ s. record { asn = s.asn; address = s.address; is_partial = partial }) speaker
 
 -- the attributes of a route that this speaker originates (RFC 4271 sections 5.1.1 and 5.1.2)
 abbrev pub originated : PathAttributes

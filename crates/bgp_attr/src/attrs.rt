@@ -10,7 +10,7 @@ ghost use Rattle.bgp_attr.specs.TravellingAttributes.{MayAllTravel};
 ghost use Rattle.bgp_attr.specs.UnknownAttributes.{ArePassedOn, unknown_or_none};
 ghost use Rattle.bgp_attr.specs.Written.{attributes_of};
 
-use crate::aggregator::Aggregator;
+use crate::aggregator::{AggregatingSpeaker, Aggregator, join_aggregator};
 use crate::as_path::AsPath;
 use crate::attribute_type::AttributeType;
 use crate::peer::PeerKind;
@@ -57,25 +57,27 @@ impl Origin {
 /// The attributes that came and were taken, each at most once. A next hop is the address of a host.
 #[derive(Drop)]
 pub struct Attrs<A: Allocator = Global> {
-    pub(crate) origin: Option<Origin>,
+    // The widest first, and so none stands behind a gap: each route has a block of these.
     pub(crate) as_path: Option<AsPath<A>>,
+    pub(crate) unknown: Option<UnknownAttributes<A>>,
     pub(crate) next_hop: Option<u32>,
     pub(crate) multi_exit_disc: Option<u32>,
     pub(crate) local_pref: Option<u32>,
+    pub(crate) aggregator: Option<AggregatingSpeaker>,
+    pub(crate) is_aggregator_partial: bool,
     pub(crate) atomic_aggregate: bool,
-    pub(crate) aggregator: Option<Aggregator>,
-    pub(crate) unknown: Option<UnknownAttributes<A>>,
+    pub(crate) origin: Option<Origin>,
 }
 
 impl<A: Allocator> Model for Attrs<A> {
     ghost use Rattle.std.specs.Prelude.{◌≡◌, MatchOption, ⊤, true};
     ghost use Rattle.bgp_attr.specs.AttributeFaults.{is_host};
-    ghost use Rattle.bgp_attr.specs.PathAttributes.{PathAttributes};
+    ghost use Rattle.bgp_attr.specs.PathAttributes.{PathAttributes, aggregator_of};
     ghost use Rattle.bgp_attr.specs.UnknownAttributes.{unknown_or_none};
 
     ghost Value = { PathAttributes };
 
-    ghost view = { λ a. record { origin = a.origin; as_path = a.as_path; next_hop = a.next_hop; multi_exit_disc = a.multi_exit_disc; local_pref = a.local_pref; atomic_aggregate = a.atomic_aggregate; aggregator = a.aggregator; unknown = unknown_or_none a.unknown } };
+    ghost view = { λ a. record { origin = a.origin; as_path = a.as_path; next_hop = a.next_hop; multi_exit_disc = a.multi_exit_disc; local_pref = a.local_pref; atomic_aggregate = a.atomic_aggregate; aggregator = aggregator_of a.aggregator a.is_aggregator_partial; unknown = unknown_or_none a.unknown } };
 
     ghost invariant = { λ a. MatchOption a.next_hop ⊤ (λ address. is_host address ≡ true) };
 }
@@ -94,6 +96,7 @@ impl<A: Allocator> Attrs<A> {
             local_pref: None,
             atomic_aggregate: false,
             aggregator: None,
+            is_aggregator_partial: false,
             unknown: None,
         }
     }
@@ -146,10 +149,7 @@ impl<A: Allocator> Attrs<A> {
         ensures value { result ≡ self.now.aggregator }
         ensures small { MatchOption result ⊤ (λ a. (a.asn.0 < 2 ^ 32) × (a.address < 2 ^ 32)) }
     {
-        match self.aggregator {
-            Some(aggregator) => Some(aggregator.as_lawful()),
-            None => None,
-        }
+        join_aggregator(self.aggregator, self.is_aggregator_partial)
     }
 
     /// The unknown attributes that are passed on, where there are any.
@@ -219,7 +219,7 @@ impl<A: Allocator> Attrs<A> {
             multi_exit_disc: self.multi_exit_disc,
             local_pref: self.local_pref,
             atomic_aggregate: self.atomic_aggregate,
-            aggregator: self.aggregator,
+            aggregator: self.aggregator(),
             unknown: self.unknown.as_ref(),
         }
     }

@@ -4,7 +4,9 @@ ghost use Rattle.bgp_attr.specs.AttributeFaults.{code_of, data_of, number_of, su
 
 use crate::attribute_type::AttributeType;
 use std::alloc::AllocError;
-use thiserror::Error;
+use std::error::Error;
+use std::fmt;
+use std::fmt::{Display, Formatter, Write};
 
 const UPDATE_MESSAGE_ERROR: u8 = 3;
 
@@ -12,29 +14,27 @@ const UPDATE_MESSAGE_ERROR: u8 = 3;
 const NO_MEMORY: u8 = 21;
 
 /// Why an UPDATE cannot be taken. A slice is the whole attribute as it came: flags, code, length and value.
-#[derive(Clone, Copy, Debug, PartialEq, Eq, Error)]
+#[derive(Clone, Copy, Debug, PartialEq, Eq)]
 pub enum UpdateFault<'a> {
-    #[error("the attribute list is malformed")]
     MalformedAttributeList,
-    #[error("a well-known attribute is not recognized")]
     UnrecognizedWellKnown(&'a [u8]),
-    #[error("a well-known attribute is missing")]
     MissingWellKnown(AttributeType),
-    #[error("the flags are not those of the attribute")]
     AttributeFlags(&'a [u8]),
-    #[error("the length is not that of the attribute")]
     AttributeLength(&'a [u8]),
-    #[error("the origin is not defined")]
     InvalidOrigin(&'a [u8]),
-    #[error("the next hop is no host address")]
     InvalidNextHop(&'a [u8]),
-    #[error("a prefix is malformed")]
     InvalidNetworkField,
-    #[error("the AS path is malformed")]
     MalformedAsPath,
-    #[error("out of memory")]
     NoMemory,
 }
+
+impl Display for UpdateFault<'_> {
+    fn fmt<W: Write>(&self, f: &mut Formatter<W>) -> fmt::Result {
+        f.write_str(self.text())
+    }
+}
+
+impl Error for UpdateFault<'_> {}
 
 impl From<AllocError> for UpdateFault<'_> {
     ghost use Rattle.bgp_attr.specs.declared.fault.UpdateFault.TheVariants.{NoMemory};
@@ -47,6 +47,21 @@ impl From<AllocError> for UpdateFault<'_> {
 }
 
 impl UpdateFault<'_> {
+    fn text(&self) -> &'static str {
+        match self {
+            UpdateFault::MalformedAttributeList => "the attribute list is malformed",
+            UpdateFault::UnrecognizedWellKnown(_) => "a well-known attribute is not recognized",
+            UpdateFault::MissingWellKnown(_) => "a well-known attribute is missing",
+            UpdateFault::AttributeFlags(_) => "the flags are not those of the attribute",
+            UpdateFault::AttributeLength(_) => "the length is not that of the attribute",
+            UpdateFault::InvalidOrigin(_) => "the origin is not defined",
+            UpdateFault::InvalidNextHop(_) => "the next hop is no host address",
+            UpdateFault::InvalidNetworkField => "a prefix is malformed",
+            UpdateFault::MalformedAsPath => "the AS path is malformed",
+            UpdateFault::NoMemory => "out of memory",
+        }
+    }
+
     /// The code of the NOTIFICATION that tells the fault; none where none does.
     pub fn code(&self) -> Option<u8>
         ensures { result ≡ code_of self.now }

@@ -1,5 +1,5 @@
 //! Reading an AS_PATH (RFC 4271 section 4.3, RFC 6793).
-ghost use Rattle.std.specs.Prelude.{◌≡◌, List, ◌<◌, ◌≤◌, ◌^◌, length, is_some, IfOk, IfSome};
+ghost use Rattle.std.specs.Prelude.{◌≡◌, List, [], ◌∷◌, ◌++◌, ◌<◌, ◌≤◌, ◌^◌, Some, None, if◌then◌else◌, length, is_some, IfOk, IfSome, OnOk};
 ghost use Rattle.std.specs.Option.{option_map};
 ghost use Rattle.bgp_attr.specs.AttributeReading.{segment_of, path_items};
 ghost use Rattle.bgp_attr.specs.AsPath.{PathSegment};
@@ -86,17 +86,52 @@ fn read_segments<A: Allocator + Clone>(
 ) -> Result<Option<Vec<Segment<A>, A>>, AllocError>
     ensures { IfOk result (λ segments. option_map path_items segments ≡ path_at octets.now) }
 {
-    // Most paths are one segment: room for no more is taken at first.
-    let mut segments = Vec::with_capacity(alloc.clone()?, octets.len().min(1))?;
+    let mut segments = room_for(alloc, octets)?;
+    if push_segments(alloc, octets, &mut segments)? {
+        Ok(Some(segments))
+    } else {
+        Ok(None)
+    }
+}
+
+// Most paths are one segment: room for no more is taken at first.
+fn room_for<A: Allocator + Clone>(
+    alloc: &A,
+    octets: &[u8],
+) -> Result<Vec<Segment<A>, A>, AllocError>
+    ensures { IfOk result (λ segments. segments.items ≡ []) }
+{
+    Vec::with_capacity(alloc.clone()?, octets.len().min(1))
+}
+
+// Puts the segments that stand in these octets behind others. Answers whether nothing else stands there.
+fn push_segments<A: Allocator + Clone>(
+    alloc: &A,
+    octets: &[u8],
+    segments: &mut Vec<Segment<A>, A>,
+) -> Result<bool, AllocError>
+    ensures { IfOk result (λ whole. (if whole then Some segments.new.items else None) ≡ option_map (λ behind. segments.old.items ++ behind) (path_at octets.now)) }
+{
     let mut rest = octets;
-    while !rest.is_empty() {
-        let Some((segment, behind)) = split_segment(rest) else {
-            return Ok(None);
-        };
-        segments.push(read_segment(alloc.clone()?, segment)?)?;
+    while let Some((segment, behind)) = split_segment(rest) {
+        push_segment(alloc, segment, segments)?;
         rest = behind;
     }
-    Ok(Some(segments))
+    Ok(rest.is_empty())
+}
+
+fn push_segment<A: Allocator + Clone>(
+    alloc: &A,
+    segment: RawSegment<'_>,
+    segments: &mut Vec<Segment<A>, A>,
+) -> Result<(), AllocError>
+    requires some { 4 ≤ length segment.asns.now }
+    requires few { length segment.asns.now ≤ 1020 }
+    ensures { OnOk result (segments.new.items ≡ segments.old.items ++ segment_of segment.entry ∷ []) }
+{
+    let read = read_segment(alloc.clone()?, segment)?;
+    segments.push(read)?;
+    Ok(())
 }
 
 fn read_segment<A: Allocator>(alloc: A, segment: RawSegment<'_>) -> Result<Segment<A>, AllocError>

@@ -12,7 +12,7 @@ ghost use Rattle.bgp_attr.specs.ReceivedAttributes.{is_partial, split_of};
 ghost use Rattle.bgp_attr.specs.UnknownAttributes.{is_kept, unknown_in, unknown_or_none};
 ghost use Rattle.bgp_attr.specs.declared.attribute_type.AttributeType.TheVariants as type;
 
-use crate::aggregator::Aggregator;
+use crate::aggregator::{Aggregator, split_aggregator};
 use crate::as_path::AsPath;
 use crate::attribute_type::AttributeType;
 use crate::attrs::{Attrs, Origin};
@@ -157,7 +157,6 @@ pub fn is_host(address: u32) -> bool
 }
 
 // The attributes by their codes, where the octets have no fault.
-#[tactic(auto, unfolding(crate::specs::AttributeReading::attributes_in))]
 fn take_attributes<A: Allocator + Clone>(
     alloc: &A,
     octets: &[u8],
@@ -169,16 +168,34 @@ fn take_attributes<A: Allocator + Clone>(
 {
     let as_path = path_of(alloc, octets, kind)?;
     let unknown = unknown_of(alloc, octets)?;
-    Ok(Attrs {
+    Ok(with_numbers(octets, kind, as_path, unknown))
+}
+
+// The attributes, of which those are given that take memory.
+#[tactic(auto, unfolding(crate::specs::AttributeReading::attributes_in))]
+fn with_numbers<A: Allocator>(
+    octets: &[u8],
+    kind: PeerKind,
+    as_path: Option<AsPath<A>>,
+    unknown: Option<UnknownAttributes<A>>,
+) -> Attrs<A>
+    requires faultless { attributes_fault kind octets.now ≡ None }
+    requires path { as_path ≡ option_and_then path_at (value_taken kind type.AsPath (split_of octets.now).0) }
+    requires unknown { unknown_or_none unknown ≡ unknown_in (split_of octets.now).0 }
+    ensures { result ≡ attributes_in kind octets.now }
+{
+    let (aggregator, is_aggregator_partial) = split_aggregator(aggregator_of(octets, kind));
+    Attrs {
         origin: origin_of(octets, kind),
         as_path,
         next_hop: number_of(AttributeType::NextHop, octets, kind),
         multi_exit_disc: number_of(AttributeType::MultiExitDisc, octets, kind),
         local_pref: number_of(AttributeType::LocalPref, octets, kind),
         atomic_aggregate: value_of(AttributeType::AtomicAggregate, octets, kind).is_some(),
-        aggregator: aggregator_of(octets, kind),
+        aggregator,
+        is_aggregator_partial,
         unknown,
-    })
+    }
 }
 
 // The attribute of a type, where it is taken from such a peer.

@@ -1,6 +1,7 @@
 //! Attributes that this speaker does not know and passes on (RFC 4271 section 5).
 ghost use Rattle.std.specs.Prelude.{◌≡◌, [], true, ◌≤◌, length, OnOk, OnErr, IfOk};
 ghost use Rattle.std.specs.BTreeMap.{insert_entry};
+ghost use Rattle.std.specs.List.{insert};
 ghost use Rattle.std.specs.Iterator.{YieldsFirstBy, item_count};
 ghost use Rattle.std.specs.Ordering.{nat_cmp};
 ghost use Rattle.bgp_attr.specs.AttributeTable.{is_passed_on};
@@ -78,17 +79,42 @@ impl<A: Allocator + Clone> UnknownAttributes<A> {
         ensures { OnOk result (self.new ≡ insert_entry nat_cmp self.old code value.now) }
     {
         let attribute = Unknown::of(self.alloc.clone()?, code, value)?;
-        let at = place_of(&self.attributes, code);
-        if has_code(&self.attributes, at, code) {
-            self.attributes[at] = attribute;
-            return Ok(());
-        }
-        self.attributes.reserve_exact(1)?;
-        let Ok(()) = self.attributes.insert(at, attribute) else {
-            return Err(AllocError);
-        };
-        Ok(())
+        put(&mut self.attributes, attribute)
     }
+}
+
+// Puts the attribute in its place, where one with its code may stand.
+fn put<A: Allocator>(
+    attributes: &mut Vec<Unknown<A>, A>,
+    attribute: Unknown<A>,
+) -> Result<(), AllocError>
+    ensures kept { OnOk result (attributes.new.items ≡ insert_entry nat_cmp attributes.old.items attribute.0 attribute.1) }
+    ensures refused { OnErr result (attributes.new.items ≡ attributes.old.items) }
+{
+    let code = attribute.code();
+    let place = place_of(attributes, code);
+    if has_code(attributes, place, code) {
+        attributes[place] = attribute;
+        return Ok(());
+    }
+    put_between(attributes, place, attribute)
+}
+
+// Puts the attribute behind so many of the others.
+fn put_between<A: Allocator>(
+    attributes: &mut Vec<Unknown<A>, A>,
+    place: usize,
+    attribute: Unknown<A>,
+) -> Result<(), AllocError>
+    requires { place ≤ length attributes.old.items }
+    ensures put { OnOk result (attributes.new.items ≡ insert attributes.old.items place attribute) }
+    ensures refused { OnErr result (attributes.new.items ≡ attributes.old.items) }
+{
+    attributes.reserve_exact(1)?;
+    let Ok(()) = attributes.insert(place, attribute) else {
+        return Err(AllocError);
+    };
+    Ok(())
 }
 
 // How many of them, from the first on, have a code below this one.

@@ -1,5 +1,5 @@
 //! Writing attributes (RFC 4271 section 4.3), in rising order of their codes.
-ghost use Rattle.std.specs.Prelude.{◌≡◌, ◌≤◌, ◌<◌, ◌+◌, ◌++◌, true, false, if◌then◌else◌, length, []};
+ghost use Rattle.std.specs.Prelude.{◌≡◌, ◌≤◌, ◌<◌, ◌+◌, ◌++◌, true, false, if◌then◌else◌, length, [], ⊤};
 ghost use Rattle.std.specs.List.{flat_map};
 ghost use Rattle.std.specs.Option.{option_copied, option_map};
 ghost use Rattle.bgp_attr.specs.Appending.{Appends};
@@ -17,7 +17,7 @@ use crate::path_writing::write_path;
 use crate::prepending::PrependedPath;
 use crate::unknown::UnknownAttributes;
 use arrayvec::ArrayVec;
-use std::alloc::{Allocator, Global};
+use std::alloc::{AllocError, Allocator, Global};
 
 const PARTIAL: u8 = 0x20;
 
@@ -27,7 +27,6 @@ const EXTENDED_LENGTH: u8 = 0x10;
 const UNKNOWN: u8 = 0xE0;
 
 /// The attributes of an UPDATE that is to be written.
-#[derive_where(Clone, Copy)]
 pub struct AttrsToWrite<'a, A: Allocator = Global> {
     pub origin: Option<Origin>,
     pub as_path: Option<PrependedPath<'a, A>>,
@@ -38,6 +37,18 @@ pub struct AttrsToWrite<'a, A: Allocator = Global> {
     pub aggregator: Option<Aggregator>,
     pub unknown: Option<&'a UnknownAttributes<A>>,
 }
+
+impl<A: Allocator> Clone for AttrsToWrite<'_, A> {
+    ghost is_clone = { λ x y. y ≡ x };
+
+    ghost is_infallible = { λ _. ⊤ };
+
+    fn clone(&self) -> Result<Self, AllocError> {
+        Ok(*self)
+    }
+}
+
+impl<A: Allocator> Copy for AttrsToWrite<'_, A> {}
 
 /// Writes the attributes in place of what `out` had. Answers false, and leaves `out` empty, where they take more than
 /// 4,096 octets.
