@@ -14,26 +14,26 @@ pub const MAX_CANDIDATES: usize = 65;
 /// A route of a prefix, as the selection sees it (RFC 4271 section 9.1).
 #[derive(Clone, Copy, Debug, PartialEq, Eq)]
 pub struct Candidate {
-    /// The slot of the peer that announced it, or `LOCAL_SLOT`.
-    pub slot: u8,
     /// The degree of preference.
     pub degree: u64,
     /// The ASes of its path, where an AS_SET counts as one.
     pub path_length: u32,
-    /// Its ORIGIN.
-    pub origin: Origin,
     /// The neighbor AS of its path.
     pub neighbor: Asn,
-    /// Its MULTI_EXIT_DISC, where it has one.
-    pub med: Option<u32>,
-    /// Whether an external peer announced it.
-    pub external: bool,
     /// The interior cost of its next hop.
     pub cost: u32,
     /// The BGP Identifier of the peer.
     pub identifier: u32,
     /// The address of the peer.
     pub address: u32,
+    /// Its MULTI_EXIT_DISC, where it has one.
+    pub med: Option<u32>,
+    /// The slot of the peer that announced it, or `LOCAL_SLOT`.
+    pub slot: u8,
+    /// Its ORIGIN.
+    pub origin: Origin,
+    /// Whether an external peer announced it.
+    pub external: bool,
     /// The state of its origin, which no step of the selection compares.
     pub validity: Validity,
 }
@@ -42,21 +42,21 @@ impl Default for Candidate {
     ghost use Rattle.bgp_attr.specs.declared.attrs.Origin.TheVariants.{Igp};
     ghost use Rattle.origin_valid.specs.declared.validity.Validity.TheVariants.{NotFound};
 
-    ghost is_default = { λ c. c ≡ record { slot = 0; degree = 0; path_length = 0; origin = Igp; neighbor = record { 0 = 0 }; med = None; external = false; cost = 0; identifier = 0; address = 0; validity = NotFound } };
+    ghost is_default = { λ c. c ≡ record { degree = 0; path_length = 0; neighbor = record { 0 = 0 }; cost = 0; identifier = 0; address = 0; med = None; slot = 0; origin = Igp; external = false; validity = NotFound } };
 
     /// What fills the places of a list that are not in use.
     fn default() -> Candidate {
         Candidate {
-            slot: 0,
             degree: 0,
             path_length: 0,
-            origin: Origin::Igp,
             neighbor: Asn(0),
-            med: None,
-            external: false,
             cost: 0,
             identifier: 0,
             address: 0,
+            med: None,
+            slot: 0,
+            origin: Origin::Igp,
+            external: false,
             validity: Validity::NotFound,
         }
     }

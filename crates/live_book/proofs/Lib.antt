@@ -3,3 +3,5 @@ pub mod PlaceBests
 pub mod Moves
 pub mod Rounds
 pub mod Leaving
+pub mod Rooms
+pub mod Alone

@@ -115,6 +115,10 @@ standing_of changes ns p =
 abbrev pub moved : List Change → List ℕ → Place → Place
 moved changes ns p = record { slot = p.slot; candidate = changed changes p.slot p.candidate; standing = standing_of changes ns p }
 
+-- a place that stands alone, after the changes
+abbrev pub renewed : List Change → Place → Place
+renewed changes p = record { slot = p.slot; candidate = changed changes p.slot p.candidate; standing = Won }
+
 -- ---- who is compared
 
 -- the candidate came by the neighbor AS

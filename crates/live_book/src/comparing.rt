@@ -3,7 +3,7 @@ ghost use Rattle.std.specs.Prelude.{◌≡◌, ℕ, ◌≤◌, ◌<◌, ◌+◌,
 ghost use Rattle.decision.specs.Selection.{IsSelected};
 ghost use Rattle.decision.specs.BookContents.{candidate_of, changed};
 ghost use Rattle.decision.specs.KeptPlaces.{ArePlaces, IsBestAt, with_changes};
-ghost use Rattle.live_book.specs.NeighborBests.{AreBests, AreFair, AreFew, HaveStood, IsBestBefore, contender, contenders_of, few_with, has_neighbor, is_in, is_kept, is_named, is_of, is_open, is_opened, keeps_lead, last_round, leads, moved, narrowed, neighbor_to_settle, opened_by, opened_of, slots_of, standing_of, to_settle_at};
+ghost use Rattle.live_book.specs.NeighborBests.{AreBests, AreFair, AreFew, HaveStood, IsBestBefore, contender, contenders_of, few_with, has_neighbor, is_in, is_kept, is_named, is_of, is_open, is_opened, keeps_lead, last_round, leads, moved, narrowed, neighbor_to_settle, opened_by, opened_of, renewed, slots_of, standing_of, to_settle_at};
 
 use crate::place::{Place, Standing};
 use arrayvec::ArrayVec;
@@ -126,6 +126,17 @@ fn moved(changes: &[Change], opened: &[u32], place: &Place) -> Place
         slot: place.slot,
         candidate: after(changes, place.slot, place.candidate),
         standing: standing_of(changes, opened, place),
+    }
+}
+
+// The place after the changes, where it stands alone. How it stands says nothing where it has no candidate.
+pub(crate) fn renewed(changes: &[Change], place: &Place) -> Place
+    ensures { result ≡ renewed changes.now place.now }
+{
+    Place {
+        slot: place.slot,
+        candidate: after(changes, place.slot, place.candidate),
+        standing: Standing::Won,
     }
 }
 
@@ -328,7 +339,7 @@ fn last_round(places: &[Place], best: Option<u8>) -> Round
 }
 
 // A count has 64 bits.
-fn is_count(count: u64)
+pub(crate) fn is_count(count: u64)
     ensures { count < 2 ^ 64 }
 {}
 

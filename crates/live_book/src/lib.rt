@@ -16,6 +16,7 @@
 //! `LiveBook` marks at each place whether its candidate is the best of its AS. One that comes is compared with the best
 //! of its AS, and if it wins, with the best of all. Where the best of an AS goes or changes, that AS alone is compared
 //! again (`settle`). The bests of all ASes are compared where the best of all goes, changes, or falls behind within its AS.
+//! The candidate of a place that stands alone is compared with none.
 //! The marks stand in the places, so there is no group to make room for, and none to forget. What is counted is that a best
 //! route is chosen, once a call at most: comparing within an AS is a part of it, by a meter of its own.
 #![tactic(auto)]

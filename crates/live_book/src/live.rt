@@ -1,10 +1,10 @@
 //! A book that keeps the best of each neighbor AS, and of these the best one.
-ghost use Rattle.std.specs.Prelude.{◌≡◌, None, Some, OnErr, OnOk, slice_get};
+ghost use Rattle.std.specs.Prelude.{◌≡◌, ◌∷◌, [], IfOk, None, slice_get};
 ghost use Rattle.std.specs.BTreeMap.{is_at};
 ghost use Rattle.std.specs.List.Sorted.{IsStrictlySortedBy};
 ghost use Rattle.std.specs.Map.{keys_of, remove_entry};
-ghost use Rattle.decision.specs.KeptPlaces.{Puts, alone};
-ghost use Rattle.decision.specs.BookContents.{candidate_of, is_placed, kept_at, places_at, rows_of};
+ghost use Rattle.decision.specs.KeptPlaces.{Puts};
+ghost use Rattle.decision.specs.BookContents.{rows_of};
 ghost use Rattle.net_prefix.specs.PrefixOrder.{prefix_cmp};
 
 use crate::places::Places;
@@ -34,22 +34,6 @@ impl<A: Allocator> Model for LiveBook<A> {
     ghost view = { λ b. b.prefixes.entries };
 
     ghost invariant = { λ b. IsBook b.prefixes.entries };
-}
-
-impl<A: Allocator + Clone> LiveBook<A> {
-    // Begins to keep a prefix at which the slot has a place.
-    fn add_prefix(&mut self, slot: u8, prefix: Prefix) -> Result<(), AllocError>
-        requires { kept_at self.old prefix ≡ None }
-        ensures ok { OnOk result (Puts self.old self.new prefix (Some (alone slot))) }
-        ensures err { OnErr result (self.new ≡ self.old) }
-        ensures rows { rows_of self.new ≡ rows_of self.old }
-    {
-        let places = Places::of(self.alloc.clone()?, slot)?;
-        match self.prefixes.insert(prefix, places) {
-            Ok(_) => Ok(()),
-            Err(_) => Err(AllocError),
-        }
-    }
 }
 
 // Keeps the prefix no longer.
@@ -84,10 +68,15 @@ impl<A: Allocator + Clone> Book<A> for LiveBook<A> {
     }
 
     fn room(&mut self, slot: u8, prefix: Prefix) -> Result<(), AllocError> {
-        match self.prefixes.get_mut(&prefix) {
-            Some(places) => places.add(slot),
-            None => self.add_prefix(slot, prefix),
-        }
+        let alloc = &self.alloc;
+        self.prefixes
+            .entry(prefix)?
+            .or_try_insert_with(
+                ||
+                    ensures { IfOk result (λ kept. (kept.places ≡ (slot, None) ∷ []) × (kept.best ≡ None)) }
+                { Places::of(alloc, slot) },
+            )?
+            .add(slot)
     }
 
     fn change(&mut self, meter: &mut Meter, prefix: Prefix, changes: &[Change]) {

@@ -1,11 +1,11 @@
 //! The places of one prefix.
-ghost use Rattle.std.specs.Prelude.{◌≡◌, ◌≢◌, ◌≤◌, ◌+◌, ◌-◌, ◌^◌, ◌++◌, ◌∷◌, ◌&&◌, [], None, true, Option, Some, All, IfOk, IfSome, IsTrue, ◌↔◌, filter, is_ok, length, min, nat_eq, not, if◌then◌else◌};
+ghost use Rattle.std.specs.Prelude.{◌≡◌, ◌≢◌, ◌≤◌, ◌+◌, ◌-◌, ◌^◌, ◌++◌, ◌∷◌, ◌&&◌, [], None, true, Option, Some, All, IfOk, IfSome, IsTrue, ◌↔◌, filter, is_ok, length, min, nat_eq, not, option_and_then, if◌then◌else◌};
 ghost use Rattle.std.specs.Map.{lookup};
 ghost use Rattle.decision.specs.BookContents.{AreApart, candidate_of, is_placed};
-ghost use Rattle.decision.specs.KeptPlaces.{ArePlaces, IsKept, with_changes, without_slot};
+ghost use Rattle.decision.specs.KeptPlaces.{ArePlaces, IsBestAt, IsKept, with_changes, without_slot};
 ghost use Rattle.live_book.specs.NeighborBests.{AreBests, HaveStood, empty_place, leads, slots_of};
 
-use crate::comparing::{after, best_of, open, settle_each};
+use crate::comparing::{after, best_of, is_count, open, renewed, settle_each};
 use crate::place::Place;
 use decision::{Candidate, Change, MAX_CANDIDATES, Meter};
 use std::alloc::{AllocError, Allocator};
@@ -33,10 +33,12 @@ impl<A: Allocator> Model for Places<A> {
 
 impl<A: Allocator> Places<A> {
     // The place of one slot.
-    pub(crate) fn of(alloc: A, slot: u8) -> Result<Self, AllocError>
+    pub(crate) fn of(alloc: &A, slot: u8) -> Result<Self, AllocError>
+    where
+        A: Clone,
         ensures { IfOk result (λ kept. (kept.places ≡ (slot, None) ∷ []) × (kept.best ≡ None)) }
     {
-        let mut places = Vec::new(alloc);
+        let mut places = Vec::new(alloc.clone()?);
         places.reserve_exact(1)?;
         places.push_reserved(Place::of(slot));
         Ok(Places { places, best: None })
@@ -75,6 +77,10 @@ impl<A: Allocator> Places<A> {
         ensures chosen { self.new.best ≢ self.old.best → meter.new.count ≡ min (meter.old.count + 1) (2 ^ 64 - 1) }
     {
         if are_idle(changes, &self.places) {
+            return;
+        }
+        if self.places.len() == 1 {
+            self.best = renew(meter, changes, &mut self.places);
             return;
         }
         make(changes, &mut self.places);
@@ -182,6 +188,27 @@ fn is_one(first: &Candidate, second: &Candidate) -> bool
     ensures { IsTrue result ↔ (first.now ≡ second.now) }
 {
     first == second
+}
+
+// Makes the changes of a place that stands alone, and answers the slot of its candidate: none is compared with it.
+fn renew<A: Allocator>(
+    meter: &mut Meter,
+    changes: &[Change],
+    places: &mut Vec<Place, A>,
+) -> Option<u8>
+    requires alone { length places.old.items ≡ 1 }
+    requires after { ArePlaces (with_changes changes.now (slots_of places.old.items)) }
+    ensures slots { slots_of places.new.items ≡ with_changes changes.now (slots_of places.old.items) }
+    ensures bests { AreBests places.new.items }
+    ensures best { IsBestAt (slots_of places.new.items) (option_and_then (candidate_of (slots_of places.new.items)) result) }
+    ensures counted { (meter.old.count ≤ meter.new.count) × (meter.new.count ≤ meter.old.count + 1) }
+    ensures chosen { meter.new.count ≡ min (meter.old.count + 1) (2 ^ 64 - 1) }
+{
+    is_count(meter.count());
+    meter.add();
+    let place = renewed(changes, &places[0]);
+    places[0] = place;
+    place.candidate.map(|candidate| candidate.slot)
 }
 
 // Makes the changes, and finds the best one of each neighbor AS.
