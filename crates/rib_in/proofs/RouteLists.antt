@@ -13,7 +13,7 @@ use Rattle.std.specs.Option.{is_some}
 use Rattle.std.specs.Ordering.{nat_cmp}
 use Rattle.std.specs.declared.cmp.Ordering.TheVariants.{Less, Greater}
 use Rattle.bgp_attr.specs.PathAttributes.{PathAttributes}
-use Rattle.rib_in.specs.LatestRoutes.{RouteList}
+use Rattle.rib_in.specs.LatestRoutes.{RouteList, route_in}
 use Rattle.rib_in.specs.PrefixRoutes.{AreRoutes, HasRisingSlots, higher_of, is_next_only, is_only, others_of}
 use Rattle.bgp_attr.proofs.EntryLists.{some-insert_entry, sorted-insert_entry}
 use Rattle.rib_in.proofs.Ordered.{sorted-others}
@@ -49,6 +49,10 @@ some_length n h = grind (arith, nat_tests)
 
 pub any_length : (n : ℕ) → (n == 0) ≡ false → 0 < n
 any_length n h = grind (arith, nat_tests)
+
+pub any_route : (s : ℕ) (a : PathAttributes) (es : RouteList) → route_in es s ≡ Some a → 0 < length es
+any_route s a [] h = absurd cc
+any_route s a (e ∷ es) h = omega arith
 
 -- ---- one route
 pub one_route : {A : Type 0} (s : ℕ) (a : PathAttributes) → AreRoutes {A = A} s a None

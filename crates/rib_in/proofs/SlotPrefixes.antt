@@ -1,8 +1,9 @@
 -- The prefixes to which each slot has a route, when one comes or goes, and the walk over those of a slot.
-use Rattle.std.proofs.Common.{◌≡◌, ◌≤◌, ℕ, Bool, true, false, cond, Option, None, Some, IfSome, IfNone, IsSome, refl, sym, ap, ◌∙◌, arith}
+use Rattle.std.proofs.Common.{◌≡◌, ◌≤◌, ℕ, Bool, true, false, cond, Option, None, Some, IfSome, IfNone, IsSome, MatchBool, refl, sym, ap, ◌∙◌, arith}
 use Rattle.std.proofs.lemmas.Bool.Decides.{nat_tests}
 use Rattle.std.specs.BTreeMap.{is_at}
 use Rattle.std.specs.BTreeSet.{BTreeSet, contains}
+use Rattle.std.specs.List.{list_any}
 use Rattle.std.specs.Option.{is_some}
 use Rattle.std.specs.Ordering.{nat_cmp, is_eq, is_gt, ordering_then}
 use Rattle.std.specs.declared.cmp.Ordering.{Ordering}
@@ -10,18 +11,12 @@ use Rattle.std.specs.declared.cmp.Ordering.TheVariants.{Less, Equal, Greater}
 use Rattle.net_prefix.specs.PrefixOrder.{prefix_cmp}
 use Rattle.net_prefix.specs.declared.prefix.Prefix.{Prefix}
 use Rattle.net_prefix.proofs.PayloadSets.{prefix_cmp_exact}
-use Rattle.prefix_trie.specs.TrieMap.{found}
 use Rattle.bgp_attr.specs.PathAttributes.{PathAttributes}
 use Rattle.rib_in.specs.LatestRoutes.{RouteTable, is_route, route_at}
-use Rattle.rib_in.specs.SlotPrefixes.{TellsRoutes, slot_route, slot_route_cmp}
+use Rattle.rib_in.specs.SlotPrefixes.{Sets, TellsRoutes, slot_route, slot_route_cmp}
 use Rattle.rib_in.specs.declared.slot_prefixes.SlotRoute.{SlotRoute}
-use Rattle.rib_in.proofs.Tables.{none_out}
 
 -- ---- one comes or goes
--- one prefix of a slot is in the set or not, and the others are as before
-abbrev pub Sets : BTreeSet SlotRoute → BTreeSet SlotRoute → ℕ → Prefix → Bool → Type 0
-Sets before after slot prefix b = (e : SlotRoute) → contains slot_route_cmp after e ≡ cond (is_at (slot_route_cmp (slot_route slot prefix)) e) b (contains slot_route_cmp before e)
-
 -- the table is changed at one route
 abbrev pub Changes : RouteTable → RouteTable → ℕ → Prefix → Option PathAttributes → Type 0
 Changes old new slot prefix a = (s : ℕ) (p : Prefix) → route_at new s p ≡ cond (is_route slot prefix s p) a (route_at old s p)
@@ -69,17 +64,12 @@ pub told_replaced : (old new : RouteTable) (slot : ℕ) (prefix : Prefix) (a : P
 told_replaced old new slot prefix a set has changes told = λ s p.
     told s p ∙ there_case old slot s prefix p a (prefix_cmp prefix p) (nat_cmp slot s) refl refl has ∙ sym (ap is_some (changes s p))
 
-out_again : (b c : Bool) → cond b false (cond b true c) ≡ cond b false c
-out_again true c = refl
-out_again false c = refl
-
--- where there was no route to the prefix, a set that was told of one and lost it again tells the same
-pub told_undone : (old new : RouteTable) (slot : ℕ) (prefix : Prefix) (before between after : BTreeSet SlotRoute) → Sets before between slot prefix true → Sets between after slot prefix false
-    → found old prefix ≡ None → new ≡ old → TellsRoutes old before → TellsRoutes new after
-told_undone old new slot prefix before between after put out none same told =
-    told_changed old new slot prefix None before after
-    (λ e. out e ∙ ap (cond (is_at (slot_route_cmp (slot_route slot prefix)) e) false) (put e) ∙ out_again (is_at (slot_route_cmp (slot_route slot prefix)) e) (contains slot_route_cmp before e))
-    (none_out old new slot prefix none same) told
+-- the same of a set that is told of a route only where there was none
+pub told_either : (old new : RouteTable) (slot : ℕ) (prefix : Prefix) (a : PathAttributes) (before after : BTreeSet SlotRoute) (b : Bool) → is_some (route_at old slot prefix) ≡ b
+    → MatchBool b (after.keys ≡ before.keys) (Sets before after slot prefix true) → Changes old new slot prefix (Some a) → TellsRoutes old before → TellsRoutes new after
+told_either old new slot prefix a before after true has same changes told = λ s p.
+    ap (list_any (is_at (slot_route_cmp (slot_route s p)))) same ∙ told_replaced old new slot prefix a before has changes told s p
+told_either old new slot prefix a before after false has sets changes told = told_changed old new slot prefix (Some a) before after sets changes told
 
 -- ---- the walk
 number_at : (a : ℕ) → nat_cmp a a ≡ Equal

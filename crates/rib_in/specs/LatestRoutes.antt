@@ -4,7 +4,7 @@ use Rattle.std.specs.Prelude.{ℕ, Bool, List, [], ◌∷◌, Option, Some, None
 use Rattle.std.specs.List.{AllByRecursion}
 use Rattle.std.specs.BTreeMap.{is_at}
 use Rattle.std.specs.Ordering.{nat_cmp, ordering_then, is_eq}
-use Rattle.std.specs.Map.{lookup, set_value}
+use Rattle.std.specs.Map.{lookup}
 use Rattle.net_prefix.specs.PrefixOrder.{prefix_cmp}
 use Rattle.net_prefix.specs.declared.prefix.Prefix.{Prefix}
 use Rattle.prefix_trie.specs.TrieMap.{found}
@@ -30,10 +30,6 @@ route_among (Some routes) slot = route_in routes slot
 -- the attributes of the latest route of a slot to a prefix
 abbrev pub route_at : RouteTable → ℕ → Prefix → Option PathAttributes
 route_at table slot prefix = route_among (found table prefix) slot
-
--- the table with other routes to a prefix to which there are some
-abbrev pub with_routes : RouteTable → Prefix → RouteList → RouteTable
-with_routes table prefix routes = set_value (is_at (prefix_cmp prefix)) table routes
 
 -- whether both name one route: the same prefix and the same slot
 abbrev pub is_route : ℕ → Prefix → ℕ → Prefix → Bool

@@ -5,7 +5,7 @@ use Rattle.std.specs.List.Sorted.{IsStrictlySortedBy}
 use Rattle.std.specs.Map.{keys_of}
 use Rattle.std.specs.Ordering.{nat_cmp}
 use Rattle.bgp_attr.specs.PathAttributes.{PathAttributes}
-use Rattle.rib_in.specs.LatestRoutes.{RouteList}
+use Rattle.rib_in.specs.LatestRoutes.{RouteList, route_in}
 
 -- the slots rise
 abbrev pub HasRisingSlots : RouteList → Type 0
@@ -32,6 +32,10 @@ IsLeft slot old new = is_only slot old ≡ false → new ≡ others_of slot old
 abbrev pub with_first : RouteList → RouteList → RouteList
 with_first routes [] = routes
 with_first routes (e ∷ es) = insert_entry nat_cmp routes e.0 e.1
+
+-- the slot's route has these attributes, and the others are as they were
+abbrev pub IsAnnounced : ℕ → PathAttributes → RouteList → RouteList → Type 0
+IsAnnounced slot attrs old new = (s : ℕ) → route_in new s ≡ (if is_at (nat_cmp slot) s then Some attrs else route_in old s)
 
 -- the routes of the higher slots
 abbrev pub higher_of : {A : Type 0} → Option (Box RouteList A) → RouteList

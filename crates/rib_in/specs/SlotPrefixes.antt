@@ -1,5 +1,6 @@
 -- The prefixes to which each slot has a route, in the order of slots, then of prefixes (own).
-use Rattle.std.specs.Prelude.{ℕ, ◌≡◌}
+use Rattle.std.specs.Prelude.{ℕ, Bool, ◌≡◌, if◌then◌else◌}
+use Rattle.std.specs.BTreeMap.{is_at}
 use Rattle.std.specs.BTreeSet.{BTreeSet, contains}
 use Rattle.std.specs.BTreeMap.Range.{IsFromStart}
 use Rattle.std.specs.Option.{is_some}
@@ -26,6 +27,10 @@ IsFrom begin e = IsFromStart slot_route_cmp begin e
 -- the set tells to which prefixes each slot has a route
 abbrev pub TellsRoutes : RouteTable → BTreeSet SlotRoute → Type 0
 TellsRoutes table set = (s : ℕ) (p : Prefix) → contains slot_route_cmp set (slot_route s p) ≡ is_some (route_at table s p)
+
+-- one prefix of a slot is in the set or not, and the others are as before
+abbrev pub Sets : BTreeSet SlotRoute → BTreeSet SlotRoute → ℕ → Prefix → Bool → Type 0
+Sets before after slot prefix b = (e : SlotRoute) → contains slot_route_cmp after e ≡ (if is_at (slot_route_cmp (slot_route slot prefix)) e then b else contains slot_route_cmp before e)
 
 -- what holds of the routes and of the prefixes of each slot
 pub record AreKept (table : RouteTable) (set : BTreeSet SlotRoute) : Type 0 where

@@ -1,17 +1,17 @@
 //! The routes by prefix and slot.
-ghost use Rattle.std.specs.Prelude.{◌≡◌, [], ℕ, None, Some, OnOk, OnErr, IfOk, IfSome, IfNone, IsSome, MatchBool, ◌==◌, false, if◌then◌else◌};
+ghost use Rattle.std.specs.Prelude.{◌≡◌, [], ℕ, None, Some, OnOk, OnErr, IfOk, IfSome, IfNone, IsSome, MatchBool, ◌==◌, true, false, if◌then◌else◌};
 ghost use Rattle.std.specs.List.Sorted.{IsStrictlySortedBy};
-ghost use Rattle.std.specs.BTreeMap.{is_at};
-ghost use Rattle.std.specs.Map.{keys_of, lookup, set_value};
-ghost use Rattle.std.specs.Option.{option_copied, option_map, is_some};
-ghost use Rattle.std.specs.Ordering.{is_gt, nat_cmp};
+ghost use Rattle.std.specs.Map.{keys_of, lookup};
+ghost use Rattle.std.specs.Option.{option_copied, is_some};
+ghost use Rattle.std.specs.Ordering.{is_gt};
 ghost use Rattle.std.specs.declared.cmp.Ordering.TheVariants.{Less};
 ghost use Rattle.net_prefix.specs.PrefixOrder.{prefix_cmp, IsAbove};
 ghost use Rattle.net_prefix.specs.declared.prefix.Prefix.{Prefix};
-ghost use Rattle.prefix_trie.specs.TrieMap.{IsRising, found};
+ghost use Rattle.prefix_trie.specs.TrieMap.{IsRising};
 ghost use Rattle.prefix_trie.specs.TrieWalks.{IsNext, all_after};
-ghost use Rattle.rib_in.specs.PrefixRoutes.{is_only, others_of, with_first};
-ghost use Rattle.rib_in.specs.LatestRoutes.{HasRoute, RouteList, is_prefix, is_route, route_at, route_in, routes_of, with_routes};
+ghost use Rattle.rib_in.specs.PrefixRoutes.{IsAnnounced};
+ghost use Rattle.rib_in.specs.SlotPrefixes.{AreKept, Sets};
+ghost use Rattle.rib_in.specs.LatestRoutes.{HasRoute, is_prefix, is_route, route_at, route_in, routes_of};
 
 use crate::fault::RibFault;
 use crate::prefix_routes::PrefixRoutes;
@@ -20,6 +20,7 @@ use crate::slot_routes::SlotRoutes;
 use bgp_attr::Attrs;
 use net_prefix::Prefix;
 use std::alloc::{AllocError, Allocator, Global};
+use std::collections::btree_map::Entry;
 use std::collections::{BTreeMap, BTreeSet};
 use std::marker::Model;
 use std::ops::Bound;
@@ -79,105 +80,24 @@ impl<A: Allocator + Clone> AdjIn<A> {
         // Replacing a route takes no memory.
         ensures absent { OnErr result (route_at self.old slot prefix ≡ None) }
     {
-        match self.has_route(slot, prefix) {
-            Some(true) => {
-                replace_in(&mut self.routes, slot, prefix, attrs);
-                Ok(())
-            }
-            Some(false) => self.announce_more(slot, prefix, attrs),
-            None => self.announce_first(slot, prefix, attrs),
-        }
-    }
-
-    // The slot's first route to a prefix to which others have one.
-    fn announce_more(
-        &mut self,
-        slot: u8,
-        prefix: Prefix,
-        attrs: Rc<Attrs<A>, A>,
-    ) -> Result<(), RibFault>
-        requires { IsSome (found self.old prefix) }
-        ensures ok { OnOk result ((s : ℕ) (p : Prefix) → route_at self.new s p ≡ (if is_route slot prefix s p then Some attrs.value else route_at self.old s p)) }
-        ensures err { OnErr result (self.new ≡ self.old) }
-    {
-        let route = self.boxed(PrefixRoutes::one(slot, attrs))?;
-        if self.slot_routes.insert(SlotRoute { slot, prefix }).is_err() {
-            return Err(RibFault::NoMemory);
-        }
-        put_in(&mut self.routes, prefix, route);
-        Ok(())
-    }
-
-    // The first route to a prefix.
-    fn announce_first(
-        &mut self,
-        slot: u8,
-        prefix: Prefix,
-        attrs: Rc<Attrs<A>, A>,
-    ) -> Result<(), RibFault>
-        requires { found self.old prefix ≡ None }
-        ensures ok { OnOk result ((s : ℕ) (p : Prefix) → route_at self.new s p ≡ (if is_route slot prefix s p then Some attrs.value else route_at self.old s p)) }
-        ensures err { OnErr result (self.new ≡ self.old) }
-    {
-        let place = SlotRoute { slot, prefix };
-        if self.slot_routes.insert(place).is_err() {
-            return Err(RibFault::NoMemory);
-        }
-        match self.routes.insert(prefix, PrefixRoutes::one(slot, attrs)) {
-            Ok(_) => Ok(()),
-            Err(_) => {
-                self.slot_routes.remove(&place);
-                Err(RibFault::NoMemory)
-            }
-        }
-    }
-
-    // Whether the slot has a route to the prefix, if any slot has.
-    fn has_route(&self, slot: u8, prefix: Prefix) -> Option<bool>
-        ensures { result ≡ option_map (λ routes. is_some (route_in routes slot)) (found self.now prefix) }
-    {
-        match self.routes.get(&prefix) {
-            Some(routes) => Some(routes.get(slot).is_some()),
-            None => None,
-        }
-    }
-
-    // Takes memory for a route.
-    fn boxed(&self, route: PrefixRoutes<A>) -> Result<Box<PrefixRoutes<A>, A>, RibFault>
-        ensures { IfOk result (λ boxed. boxed.value ≡ route) }
-    {
-        match self.alloc.clone() {
-            Ok(alloc) => match Box::new(alloc, route) {
-                Ok(boxed) => Ok(boxed),
-                Err(_) => Err(RibFault::NoMemory),
-            },
-            Err(_) => Err(RibFault::NoMemory),
-        }
+        announce_in(
+            &mut self.routes,
+            &mut self.slot_routes,
+            &self.alloc,
+            SlotRoute { slot, prefix },
+            attrs,
+        )
     }
 
     /// The slot withdrew its route to the prefix.
     pub fn withdraw(&mut self, slot: u8, prefix: Prefix)
         ensures { (s : ℕ) (p : Prefix) → route_at self.new s p ≡ (if is_route slot prefix s p then None else route_at self.old s p) }
     {
-        let Some(only) = self.is_only(slot, prefix) else {
-            return;
-        };
-        self.slot_routes.remove(&SlotRoute { slot, prefix });
-        if only {
-            self.routes.remove(&prefix);
-        } else {
-            withdraw_in(&mut self.routes, slot, prefix);
-        }
-    }
-
-    // Whether no other slot has a route to the prefix, if any slot has.
-    fn is_only(&self, slot: u8, prefix: Prefix) -> Option<bool>
-        ensures { result ≡ option_map (is_only slot) (found self.now prefix) }
-    {
-        match self.routes.get(&prefix) {
-            Some(routes) => Some(routes.is_only(slot)),
-            None => None,
-        }
+        withdraw_in(
+            &mut self.routes,
+            &mut self.slot_routes,
+            SlotRoute { slot, prefix },
+        );
     }
 
     /// The slot's session has ended: none of its routes is kept.
@@ -293,37 +213,100 @@ impl<A: Allocator> AdjIn<A> {
 // The routes to each prefix, as a map by prefix.
 type Routes<A> = BTreeMap<Prefix, PrefixRoutes<A>, A>;
 
-// Replaces the slot's route among those to the prefix.
-fn replace_in<A: Allocator>(
+// Puts the slot's route among those to its prefix, and its place among those of the slot.
+fn announce_in<A: Allocator + Clone>(
     routes: &mut Routes<A>,
-    slot: u8,
-    prefix: Prefix,
+    slot_routes: &mut BTreeSet<SlotRoute, A>,
+    alloc: &A,
+    place: SlotRoute,
     attrs: Rc<Attrs<A>, A>,
-)
-    ensures { (w : RouteList) → found routes.old.entries prefix ≡ Some w → routes.new.entries ≡ with_routes routes.old.entries prefix (set_value (is_at (nat_cmp slot)) w attrs.value) }
+) -> Result<(), RibFault>
+    requires { AreKept routes.old.entries slot_routes.old }
+    ensures kept { AreKept routes.new.entries slot_routes.new }
+    ensures ok { OnOk result ((s : ℕ) (p : Prefix) → route_at routes.new.entries s p ≡ (if is_route place.slot place.prefix s p then Some attrs.value else route_at routes.old.entries s p)) }
+    ensures err { OnErr result (routes.new.entries ≡ routes.old.entries) }
+    ensures absent { OnErr result (route_at routes.old.entries place.slot place.prefix ≡ None) }
 {
-    let Some(routes) = routes.get_mut(&prefix) else {
-        return;
-    };
-    routes.replace(slot, attrs);
+    match routes.entry(place.prefix) {
+        Ok(Entry::Occupied(entry)) => {
+            announce_more(entry.into_mut(), slot_routes, alloc, place, attrs)
+        }
+        Ok(Entry::Vacant(entry)) => {
+            entry.insert(PrefixRoutes::one(place.slot, attrs));
+            if slot_routes.insert(place).is_err() {
+                routes.remove(&place.prefix);
+                return Err(RibFault::NoMemory);
+            }
+            Ok(())
+        }
+        Err(_) => Err(RibFault::NoMemory),
+    }
 }
 
-// Puts the first of some routes among those to the prefix.
-fn put_in<A: Allocator>(routes: &mut Routes<A>, prefix: Prefix, route: Box<PrefixRoutes<A>, A>)
-    ensures { (w : RouteList) → found routes.old.entries prefix ≡ Some w → routes.new.entries ≡ with_routes routes.old.entries prefix (with_first w route.value) }
+// Where there are routes to the prefix already.
+fn announce_more<A: Allocator + Clone>(
+    routes: &mut PrefixRoutes<A>,
+    slot_routes: &mut BTreeSet<SlotRoute, A>,
+    alloc: &A,
+    place: SlotRoute,
+    attrs: Rc<Attrs<A>, A>,
+) -> Result<(), RibFault>
+    ensures ok { OnOk result (IsAnnounced place.slot attrs.value routes.old routes.new) }
+    ensures told { OnOk result (MatchBool (is_some (route_in routes.old place.slot)) (slot_routes.new.keys ≡ slot_routes.old.keys) (Sets slot_routes.old slot_routes.new place.slot place.prefix true)) }
+    ensures err { OnErr result (routes.new ≡ routes.old) }
+    ensures same { OnErr result (slot_routes.new.keys ≡ slot_routes.old.keys) }
+    ensures absent { OnErr result (is_some (route_in routes.old place.slot) ≡ false) }
 {
-    let Some(routes) = routes.get_mut(&prefix) else {
-        return;
+    let Err(attrs) = routes.replace(place.slot, attrs) else {
+        return Ok(());
     };
+    let route = boxed(alloc, PrefixRoutes::one(place.slot, attrs))?;
+    if slot_routes.insert(place).is_err() {
+        return Err(RibFault::NoMemory);
+    }
     routes.put(route);
+    Ok(())
 }
 
-// Takes the slot's route out of those to the prefix, where another slot has one to it.
-fn withdraw_in<A: Allocator>(routes: &mut Routes<A>, slot: u8, prefix: Prefix)
-    ensures { (w : RouteList) → found routes.old.entries prefix ≡ Some w → is_only slot w ≡ false → routes.new.entries ≡ with_routes routes.old.entries prefix (others_of slot w) }
+// Takes memory for a route.
+fn boxed<A: Allocator + Clone>(
+    alloc: &A,
+    route: PrefixRoutes<A>,
+) -> Result<Box<PrefixRoutes<A>, A>, RibFault>
+    ensures { IfOk result (λ boxed. boxed.value ≡ route) }
 {
-    let Some(routes) = routes.get_mut(&prefix) else {
+    match alloc.clone() {
+        Ok(alloc) => match Box::new(alloc, route) {
+            Ok(boxed) => Ok(boxed),
+            Err(_) => Err(RibFault::NoMemory),
+        },
+        Err(_) => Err(RibFault::NoMemory),
+    }
+}
+
+// Takes the slot's route out of those to its prefix, and its place out of those of the slot.
+fn withdraw_in<A: Allocator + Clone>(
+    routes: &mut Routes<A>,
+    slot_routes: &mut BTreeSet<SlotRoute, A>,
+    place: SlotRoute,
+)
+    requires { AreKept routes.old.entries slot_routes.old }
+    ensures kept { AreKept routes.new.entries slot_routes.new }
+    ensures gone { (s : ℕ) (p : Prefix) → route_at routes.new.entries s p ≡ (if is_route place.slot place.prefix s p then None else route_at routes.old.entries s p) }
+{
+    // To ask for an entry that is not there takes memory.
+    if !slot_routes.remove(&place) {
+        return;
+    }
+    let Ok(entry) = routes.entry(place.prefix) else {
         return;
     };
-    routes.withdraw(slot);
+    let Entry::Occupied(entry) = entry else {
+        return;
+    };
+    if entry.get().is_only(place.slot) {
+        entry.remove();
+    } else {
+        entry.into_mut().withdraw(place.slot);
+    }
 }

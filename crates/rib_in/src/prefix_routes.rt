@@ -1,5 +1,5 @@
 //! The routes to one prefix.
-ghost use Rattle.std.specs.Prelude.{◌≡◌, ◌<◌, [], ◌∷◌};
+ghost use Rattle.std.specs.Prelude.{◌≡◌, ◌<◌, [], ◌∷◌, OnErr, IfErr, is_ok};
 ghost use Rattle.std.specs.Option.{option_copied, is_some};
 ghost use Rattle.std.specs.Map.{set_value};
 ghost use Rattle.std.specs.BTreeMap.{is_at};
@@ -75,18 +75,25 @@ impl<A: Allocator> PrefixRoutes<A> {
         self.slot == slot && self.higher.is_none()
     }
 
-    /// Replaces the slot's route, where it has one.
-    pub(crate) fn replace(&mut self, slot: u8, attrs: Rc<Attrs<A>, A>)
-        ensures { self.new ≡ set_value (is_at (nat_cmp slot)) self.old attrs.value }
+    /// Replaces the slot's route. Where it has none the attributes come back.
+    pub(crate) fn replace(
+        &mut self,
+        slot: u8,
+        attrs: Rc<Attrs<A>, A>,
+    ) -> Result<(), Rc<Attrs<A>, A>>
+        ensures new { self.new ≡ set_value (is_at (nat_cmp slot)) self.old attrs.value }
+        ensures err { OnErr result (self.new ≡ self.old) }
+        ensures back { IfErr result (λ back. back.value ≡ attrs.value) }
+        ensures there { is_ok result ≡ is_some (route_in self.old slot) }
     {
         if self.slot == slot {
             self.attrs = attrs;
-            return;
+            return Ok(());
         }
         let Some(higher) = &mut self.higher else {
-            return;
+            return Err(attrs);
         };
-        higher.replace(slot, attrs);
+        higher.replace(slot, attrs)
     }
 
     /// Puts the first of some routes in.

@@ -9,4 +9,4 @@ pub invariant_of-self-2 : goal.invariant_of-self-2
 invariant_of-self-2 g t c =
     let before = rw c.in-Some.is at c.self.invariant in
     replaced c.self.inside.slot c.self.inside.attrs.value c.args.attrs.value (is_at (nat_cmp c.args.slot)) c.in-Some.higher _ before
-    (c.replace.ensures ∙ ap (λ es. set_value (is_at (nat_cmp c.args.slot)) es c.args.attrs.value) c.deref_mut.ensures.value)
+    (c.replace.ensures.new ∙ ap (λ es. set_value (is_at (nat_cmp c.args.slot)) es c.args.attrs.value) c.deref_mut.ensures.value)
