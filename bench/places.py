@@ -21,7 +21,7 @@ TOP = os.path.join(os.path.dirname(os.path.abspath(__file__)), "..")
 PAGE = f"{TOP}/crates/growths/places.md"
 
 CALLS = (r"Box::new|Rc::new|RcSlice::from_vec|Vec::with_capacity|Vec::from_slice|String::from_str|HeapCircularBuffer::with_capacity"
-         r"|\.push(?=\()|\.insert(?=\()|\.reserve_exact|\.reserve(?=\()|\.extend_from_slice|\.extend(?=\()|\.append(?=\()|\.resize(?=\()"
+         r"|\.push(?=\()|\.insert(?=\()|\.entry(?=\()|\.reserve_exact|\.reserve(?=\()|\.extend_from_slice|\.extend(?=\()|\.append(?=\()|\.resize(?=\()"
          r"|\.collect|\.to_vec|vec!\[in|format!\(in|\bset - other")
 
 

@@ -1,12 +1,8 @@
 pub mod AlikeLists
-pub mod Followed
 pub mod HeldRows
 pub mod HeldTables
-pub mod OwedMarks
 pub mod PrefixRows
 pub mod Prefixes
-pub mod QueueLists
-pub mod Records
+pub mod WaitingLists
 pub mod SlotBits
 pub mod Undos
-pub mod Walks

@@ -1,7 +1,6 @@
 pub mod Alike
 pub mod Held
 pub mod PrefixRows
-pub mod Queues
 pub mod Slots
 pub mod Undo
 pub mod Waiting

@@ -1,56 +1,51 @@
--- What waits of each known prefix for each peer's slot (own): a withdrawal of it, an announcement of it, or nothing.
-use Rattle.std.specs.Prelude.{ℕ, ◌≡◌, ◌≢◌, ◌==◌, Bool, List, Option, None, Some, filter, is_some, if◌then◌else◌}
-use Rattle.std.specs.List.{sum_by}
-use Rattle.std.specs.Map.{set_value, values_of}
-use Rattle.std.specs.Option.{option_and_then}
-use Rattle.std.specs.Ordering.{is_lt}
+-- What waits for each slot, in order (own): a withdrawal of a prefix, or an announcement.
+use Rattle.std.specs.Prelude.{ℕ, ◌≡◌, ◌==◌, ◌&&◌, Bool, Option, None, Some, true, false}
+use Rattle.std.specs.BTreeSet.{BTreeSet, contains}
+use Rattle.std.specs.Ordering.{nat_cmp, ordering_then}
+use Rattle.std.specs.declared.cmp.Ordering.{Ordering}
 use Rattle.net_prefix.specs.PrefixOrder.{prefix_cmp}
 use Rattle.net_prefix.specs.declared.prefix.Prefix.{Prefix}
-use Rattle.prefix_trie.specs.TrieMap.{found}
 use Rattle.rib_out.specs.Held.{is_prefix}
-use Rattle.rib_out.specs.Queues.{is_wanted}
 use Rattle.rib_out.specs.Slots.{has_slot}
 use Rattle.rib_out.specs.declared.marks.Owed.{Owed}
 use Rattle.rib_out.specs.declared.marks.Owed.TheVariants.{Withdrawal, Announcement}
-use Rattle.rib_out.specs.declared.waits.Waits.{Waits}
+use Rattle.rib_out.specs.declared.waiting.Waiter.{Waiter}
 
--- what waits for a slot, by the marks of a prefix
-abbrev pub owed_by : Waits → ℕ → Option Owed
-owed_by waits slot =
-    if has_slot waits.marks.withdrawals slot then Some Withdrawal else (if has_slot waits.marks.announcements slot then Some Announcement else None)
+-- for which slots withdrawals of which prefixes wait, and announcements, and the slots whose queues are whole
+pub record WaitingState : Type 0 where
+  pub withdrawals : BTreeSet Waiter
+  pub announcements : BTreeSet Waiter
+  pub whole : ℕ
 
--- what waits of a prefix for a slot: nothing, where the prefix isn't known
-abbrev pub owed_at : List (Prefix × Waits) → ℕ → Prefix → Option Owed
-owed_at records slot prefix = option_and_then (λ waits. owed_by waits slot) (found records prefix)
+-- a prefix that waits for a slot
+abbrev pub waiter : ℕ → Prefix → Waiter
+waiter slot prefix = record { slot = slot; prefix = prefix }
 
--- whether a prefix is known
-abbrev pub is_known : List (Prefix × Waits) → Prefix → Bool
-is_known records prefix = is_some (found records prefix)
+-- the order of what waits: by slot, then by prefix
+abbrev pub waiter_cmp : Waiter → Waiter → Ordering
+waiter_cmp a b = ordering_then (nat_cmp a.slot b.slot) (prefix_cmp a.prefix b.prefix)
 
--- of how many prefixes something waits for a slot
-abbrev pub count_owed : List (Prefix × Waits) → ℕ → ℕ
-count_owed records slot = sum_by (λ waits. if is_some (owed_by waits slot) then 1 else 0) (values_of records)
+-- the queue of what waits so
+abbrev pub queue_of : WaitingState → Owed → BTreeSet Waiter
+queue_of waiting Withdrawal = waiting.withdrawals
+queue_of waiting Announcement = waiting.announcements
 
--- the entries of which this waits for a slot, or where nothing is named, of which anything does
-abbrev pub all_owed : ℕ → Option Owed → List (Prefix × Waits) → List (Prefix × Waits)
-all_owed slot wanted records = filter (λ e. is_wanted wanted (owed_by e.1 slot)) records
+-- whether this is queued for the slot
+abbrev pub is_queued : WaitingState → ℕ → Owed → Prefix → Bool
+is_queued waiting slot owed prefix = contains waiter_cmp (queue_of waiting owed) (waiter slot prefix)
 
--- the lesser of two prefixes, or the one that there is
-abbrev pub lesser : Option Prefix → Option Prefix → Option Prefix
-lesser None other = other
-lesser (Some p) None = Some p
-lesser (Some p) (Some q) = if is_lt (prefix_cmp q p) then Some q else Some p
+-- whether this is what waits, if anything does
+abbrev pub is_owed : Owed → Option Owed → Bool
+is_owed owed None = false
+is_owed Withdrawal (Some Withdrawal) = true
+is_owed Withdrawal (Some Announcement) = false
+is_owed Announcement (Some Withdrawal) = false
+is_owed Announcement (Some Announcement) = true
 
--- what waits of a known prefix for a slot was changed, and nothing else
-pub record IsSet (slot : ℕ) (owed : Option Owed) (old new : List (Prefix × Waits)) (prefix : Prefix) : Type 0 where
-  pub before : Waits
-  pub after : Waits
-  pub there : found old prefix ≡ Some before
-  pub changed : (s : ℕ) → owed_by after s ≡ (if s == slot then owed else owed_by before s)
-  pub put : (q : Prefix) → found new q ≡ (if is_prefix prefix q then Some after else found old q)
-  pub entries : new ≡ set_value (is_prefix prefix) old after
+-- whether the one is what waits of a prefix for a slot, by the other
+abbrev pub is_waiter : ℕ → Owed → Prefix → ℕ → Owed → Prefix → Bool
+is_waiter slot owed prefix s o p = s == slot && (is_owed o (Some owed) && is_prefix prefix p)
 
--- nothing changed but what waits for one slot
-pub record IsOfSlot (slot : ℕ) (old new : List (Prefix × Waits)) : Type 0 where
-  pub others : (s : ℕ) (p : Prefix) → s ≢ slot → owed_at new s p ≡ owed_at old s p
-  pub known : (p : Prefix) → is_known new p ≡ is_known old p
+-- just this is queued of the prefix for the slot, where its queue is whole
+abbrev pub IsAwaited : WaitingState → ℕ → Prefix → Option Owed → Type 0
+IsAwaited waiting slot prefix owed = has_slot waiting.whole slot ≡ true → (o : Owed) → is_queued waiting slot o prefix ≡ is_owed o owed

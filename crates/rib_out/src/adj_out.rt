@@ -69,10 +69,8 @@ impl<A: Allocator + Clone> AdjOut<A> {
     pub fn get(&self, prefix: Prefix) -> Option<&[u8]>
         ensures { option_copied result ≡ held_at self.now prefix }
     {
-        match self.routes.get(&prefix) {
-            Some(held) => Some(held.octets.as_slice()),
-            None => None,
-        }
+        let held = self.routes.get(&prefix)?;
+        Some(held.octets.as_slice())
     }
 
     /// Whether the peer holds the prefix, and has asked for it again since it was sent it.
@@ -102,6 +100,16 @@ impl<A: Allocator + Clone> AdjOut<A> {
         }
     }
 
+    /// Whether the peer holds just these octets of a prefix, and hasn't asked for it again.
+    pub fn has_just(&self, prefix: Prefix, octets: &[u8]) -> bool
+        ensures { IsTrue result ↔ ((held_at self.now prefix ≡ Some octets.now) × (asked_at self.now prefix ≡ false)) }
+    {
+        match self.routes.get(&prefix) {
+            Some(held) => !held.asked && held.octets.as_slice() == octets,
+            None => false,
+        }
+    }
+
     /// The peer was sent a route with these attributes, for which it has not asked again.
     pub fn announce(&mut self, prefix: Prefix, octets: SharedOctets<A>) -> Result<(), AllocError>
         ensures held { OnOk result ((q : Prefix) → held_at self.new q ≡ (if is_prefix prefix q then Some octets else held_at self.old q)) }
@@ -113,10 +121,8 @@ impl<A: Allocator + Clone> AdjOut<A> {
             asked: false,
         };
         self.is_all_asked = false;
-        match self.routes.insert(prefix, held) {
-            Ok(_) => Ok(()),
-            Err(_) => Err(AllocError),
-        }
+        self.routes.insert(prefix, held)?;
+        Ok(())
     }
 
     /// The peer was sent routes with these attributes to all these prefixes. Where memory is refused, all is as before.
@@ -221,10 +227,8 @@ impl<A: Allocator + Clone> AdjOut<A> {
         let mut above = self
             .routes
             .range((Bound::Excluded(after), Bound::Unbounded));
-        match above.next() {
-            Some((prefix, _)) => Some(*prefix),
-            None => None,
-        }
+        let (prefix, _) = above.next()?;
+        Some(*prefix)
     }
 
     fn first_prefix(&self) -> Option<Prefix>
@@ -232,10 +236,8 @@ impl<A: Allocator + Clone> AdjOut<A> {
         ensures least { IfSome result (λ p. (q : Prefix) → IsSome (held_at self.now q) → is_gt (prefix_cmp p q) ≡ false) }
         ensures none { IfNone result ((q : Prefix) → held_at self.now q ≡ None) }
     {
-        match self.routes.first_key_value() {
-            Some((prefix, _)) => Some(*prefix),
-            None => None,
-        }
+        let (prefix, _) = self.routes.first_key_value()?;
+        Some(*prefix)
     }
 
     /// What the peer holds, in rising order of the prefixes.
@@ -296,9 +298,7 @@ impl<'a, A: Allocator> Iterator for HeldRoutes<'a, A> {
     ghost remaining = { item_count (λ rest. rest) };
 
     fn next(&mut self) -> Option<(Prefix, &'a [u8])> {
-        match self.rest.next() {
-            Some((prefix, held)) => Some((*prefix, held.octets.as_slice())),
-            None => None,
-        }
+        let (prefix, held) = self.rest.next()?;
+        Some((*prefix, held.octets.as_slice()))
     }
 }

@@ -6,11 +6,10 @@
 //! notes in an `UndoLog` what it changes. The octets are `SharedOctets`, which `RecentOctets` gives to many prefixes and
 //! many peers: a list that was announced lately is kept once for all that are told it.
 //!
-//! `Waiting` keeps, for each known prefix, which slots a withdrawal of it waits for, and which an announcement: its
-//! record, in a map by prefix. Making the record takes memory, and marking never fails. Beside the records stand the
-//! slots' queues (`Queues`): what waits for a slot, withdrawals first, in the order of prefixes, so that the next is found
-//! soon. A queue takes memory as it grows. Where that is refused, the slot's queue is lost until it is cleared, as it is at
-//! the end of the slot's session: until then each next prefix is looked for through the records, which is slow.
+//! `Waiting` is two queues for each slot: the withdrawals that wait for it and the announcements, each in the order of
+//! prefixes, so that the next is found soon. A queue takes memory as it grows. Where that is refused, the slot's queues are
+//! lost until they are cleared, as they are at the end of the slot's session: until then whoever asks has to find out from
+//! the tables themselves what waits.
 //!
 //! `AlikePrefixes` lists what waits to be announced to each slot by a number of the octets of attributes that are to be
 //! sent, so that the prefixes of one UPDATE (RFC 4271 section 4.3) are found soon and in order. Other octets may have the
@@ -23,18 +22,14 @@
 mod adj_out;
 mod alike;
 mod marks;
-mod queues;
 mod shared;
 mod slots;
 mod undo;
 mod waiting;
-mod waits;
 
 pub use adj_out::{AdjOut, HeldRoutes};
 pub use alike::AlikePrefixes;
 pub use marks::Owed;
 pub use shared::{RecentOctets, SharedOctets};
-pub use slots::Slots;
 pub use undo::UndoLog;
 pub use waiting::Waiting;
-pub use waits::Waits;

@@ -1,5 +1,5 @@
 //! Octets of attributes that many prefixes and many peers share.
-ghost use Rattle.std.specs.Prelude.{◌≡◌, ◌<◌, IfOk};
+ghost use Rattle.std.specs.Prelude.{◌≡◌, IfOk};
 
 use std::alloc::{AllocError, Allocator, Global};
 use std::collections::BTreeMap;
@@ -73,8 +73,8 @@ impl<A: Allocator> SharedOctets<A> {
 #[derive(Drop)]
 pub struct RecentOctets<A: Allocator = Global> {
     alloc: A,
-    // By a number made of the octets: of two lists with one number the later one is kept.
-    lists: BTreeMap<u32, SharedOctets<A>, A>,
+    // By their number's remainder, each beside its number: of two lists with one remainder the later one is kept.
+    lists: BTreeMap<u32, (u32, SharedOctets<A>), A>,
 }
 
 impl<A: Allocator> Model for RecentOctets<A> {
@@ -97,26 +97,25 @@ impl<A: Allocator + Clone> RecentOctets<A> {
         ensures { IfOk result (λ shared. shared ≡ octets.now) }
     {
         let number = number_of(octets);
-        if let Some(recent) = self.lists.get(&number)
+        let place = number % RECENT_LISTS;
+        // Octets are compared only where their numbers are the same, which is soon seen.
+        if let Some((other, recent)) = self.lists.get(&place)
+            && *other == number
             && recent.as_slice() == octets
         {
             return recent.share();
         }
         let shared = SharedOctets::of(self.alloc.clone()?, octets)?;
-        match self.lists.insert(number, shared.share()?) {
-            Ok(_) => Ok(shared),
-            Err(_) => Err(AllocError),
-        }
+        self.lists.insert(place, (number, shared.share()?))?;
+        Ok(shared)
     }
 }
 
-// A number below `RECENT_LISTS` made of the octets (the hash FNV-1a).
-fn number_of(octets: &[u8]) -> u32
-    ensures { result < 16384 }
-{
+// A number made of the octets (the hash FNV-1a).
+fn number_of(octets: &[u8]) -> u32 {
     let mut number: u32 = 0x811C_9DC5;
     for octet in octets.iter() {
         number = (number ^ u32::from(*octet)).wrapping_mul(0x0100_0193);
     }
-    (number ^ number >> 16) % RECENT_LISTS
+    number ^ number >> 16
 }

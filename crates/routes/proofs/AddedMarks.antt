@@ -100,9 +100,7 @@ marked_added closing conf conf2 links links2 t slot peer m marked may own polici
       | inl same ↦ subst (λ x. x < 64) (sym same) (slot-from_accepted conf closing slot peer may)
       | inr other ↦ marked.there.within s l (sym (now_off slot m links links2 put s other) ∙ there)
     ];
-    known = marked.there.known;
   };
-  released = marked.released;
   marks = λ s p within. marked_as _ _ t s p (same s p) (marked.marks s p within);
 }
   where
@@ -123,8 +121,7 @@ marked_added closing conf conf2 links links2 t slot peer m marked may own polici
 -- the slots are as they were
 pub marked_links : (conf : Configuration) (links links2 : List (ℕ × Linked)) (t : RoutingState) → AreMarked conf links t → ((s : ℕ) → link_at links2 s ≡ link_at links s) → AreMarked conf links2 t
 marked_links conf links links2 t marked same = record {
-  there = record { within = λ s l there. marked.there.within s l (sym (same s) ∙ there); known = marked.there.known };
-  released = marked.released;
+  there = record { within = λ s l there. marked.there.within s l (sym (same s) ∙ there) };
   marks = λ s p within. marked_as _ _ t s p (sym (ap (mark_of conf t.adj_in t.book s p (peer_at conf s)) (same s))) (marked.marks s p within);
 }
 
@@ -132,7 +129,6 @@ marked_links conf links links2 t marked same = record {
 pub marked_reached : (conf conf2 : Configuration) (links : List (ℕ × Linked)) (t : RoutingState) → AreMarked conf links t → conf2.own ≡ conf.own → conf2.policies ≡ conf.policies → ((s : ℕ) → peer_at conf2 s ≡ peer_at conf s) → AreMarked conf2 links t
 marked_reached conf conf2 links t marked own policies peers = record {
   there = marked.there;
-  released = marked.released;
   marks = λ s p within. marked_as _ _ t s p (sym (mark_same conf conf2 t s p (link_at links s) own policies (peers s))) (marked.marks s p within);
 }
 
@@ -162,7 +158,6 @@ pub marked_removed : (conf conf2 : Configuration) (links : List (ℕ × Linked))
     → ((l : Linked) → link_at links slot ≡ Some l → is_established l.peer.session.state ≡ false) → AreMarked conf2 links t
 marked_removed conf conf2 links t slot marked own policies peers down = record {
   there = marked.there;
-  released = marked.released;
   marks = λ s p within. marked_as _ _ t s p (same s p) (marked.marks s p within);
 }
   where
@@ -190,9 +185,7 @@ marked_gone conf links links2 t slot marked nobody gone = record {
       | inl here ↦ let none = sym there ∙ gone s ∙ ap (λ b. cond b None (link_at links s)) (eq-eqb s slot here) in absurd (cc)
       | inr other ↦ marked.there.within s l (sym (gone s ∙ ap (λ b. cond b None (link_at links s)) (ne_eqb s slot other)) ∙ there)
     ];
-    known = marked.there.known;
   };
-  released = marked.released;
   marks = λ s p within. marked_as _ _ t s p (sym (same s p)) (marked.marks s p within);
 }
   where
@@ -208,7 +201,6 @@ marked_gone conf links links2 t slot marked nobody gone = record {
 pub marked_importing : (conf conf2 : Configuration) (links : List (ℕ × Linked)) (t : RoutingState) (slot : ℕ) (name : Bor (List ℕ)) → conf2 ≡ conf_after conf (UseIn slot name) → AreMarked conf links t → AreMarked conf2 links t
 marked_importing conf conf2 links t slot name is marked = subst (λ c. AreMarked c links t) (sym is) (record {
   there = marked.there;
-  released = marked.released;
   marks = λ s p within.
       marked_as _ _ t s p
       (sym (mark_kept conf (conf_after conf (UseIn slot name)) t s p (link_at links s) refl (option_map-changed conf slot (importing (name_of name.now)) exported_by (λ peer. refl) s)
@@ -221,7 +213,6 @@ pub marked_dropped : (closing : ℕ) (conf conf2 : Configuration) (links : List 
     → AreMarked conf2 links t
 marked_dropped closing conf conf2 links t name may is marked = subst (λ c. AreMarked c links t) (sym is) (record {
   there = marked.there;
-  released = marked.released;
   marks = λ s p within. marked_as _ _ t s p (sym (mark_kept conf (conf_after conf (DropPolicy name)) t s p (link_at links s) refl refl (λ route. export_action-DropPolicy conf s route closing name may))) (marked.marks s p within);
 })
 
@@ -237,7 +228,6 @@ marked_for : (done : ℕ → Bool) (conf conf2 : Configuration) (links : List (�
     → ((s : ℕ) → done s ≡ true → (route : Route) → export_action conf2 s route ≡ export_action conf s route) → AreMarkedFor done conf2 links t
 marked_for done conf conf2 links t marked own peers actions = record {
   there = marked.there;
-  released = marked.released;
   marks = λ s p within is. marked_as _ _ t s p (sym (either s p is)) (marked.marks s p within);
   none = λ s p within unlinked. none_unlinked conf links t t s p unlinked (marked.marks s p within);
 }

@@ -7,5 +7,4 @@ pub mod OneBest
 pub mod PutSlots
 pub mod SlotMarks
 pub mod ToldDegrees
-pub mod ToldRoutes
 pub mod WaitingRows

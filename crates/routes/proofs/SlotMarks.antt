@@ -1,4 +1,5 @@
 use Rattle.std.proofs.Common.{◌≡◌, ◌≢◌, ◌<◌, ◌==◌, ◌&&◌, ◌||◌, ◌⊎◌, not, ℕ, Bool, true, false, List, [], Option, Some, None, cond, refl, sym, ap, ◌∙◌, subst, inl, inr}
+use Rattle.std.specs.Bool.{OnFalse, OnTrue}
 use Rattle.std.specs.Option.{IsSome}
 use Rattle.std.proofs.lemmas.Slice.Eq.{bytes_eq-Decides}
 use Rattle.std.specs.Str.{bytes_eq}
@@ -14,19 +15,20 @@ use Rattle.bgp_fsm.specs.declared.session.Session.{Session}
 use Rattle.bgp_peer.specs.Slot.{Slot}
 use Rattle.decision.specs.BookContents.{BookState, rows_of}
 use Rattle.net_prefix.specs.declared.prefix.Prefix.{Prefix}
-use Rattle.rib_in.specs.LatestRoutes.{RouteTable, route_at}
+use Rattle.rib_in.specs.LatestRoutes.{RouteTable}
 use Rattle.rib_out.specs.Alike.{IsListed}
 use Rattle.rib_out.specs.Held.{HeldRoute, all_asked, asked_at, held_at, is_among}
-use Rattle.rib_out.specs.Waiting.{is_known, owed_at}
+use Rattle.rib_out.specs.Waiting.{IsAwaited}
+use Rattle.rib_out.specs.declared.marks.Owed.{Owed}
 use Rattle.rib_out.specs.declared.marks.Owed.TheVariants.{Announcement}
 use Rattle.rib_out.proofs.HeldTables.{held_at-all_asked}
 use Rattle.routing.specs.Export.{export_in, export_peer_of}
 use Rattle.routing.specs.Linked.{Linked, moved}
-use Rattle.routing.specs.Marks.{AreMarked, AreMarkedFor, IsFollowed, IsMarked, IsReleased, mark_at, mark_for, mark_of, no_mark}
+use Rattle.routing.specs.Marks.{AreMarked, AreMarkedFor, IsFollowed, IsMarked, Mark, mark_at, mark_for, mark_of, no_mark}
 use Rattle.routing.specs.Told.{IsTold}
 use Rattle.routing.specs.RoutingState.{RoutingState}
 use Rattle.routing.specs.Tables.{best_at, link_at}
-use Rattle.routing.proofs.Marking.{KeepsTables, is_other, marked_as, marked_none, marked_still, no_none, none_unlinked, other_is}
+use Rattle.routing.proofs.Marking.{KeepsTables, is_other, mark_unlinked, marked_as, marked_none, marked_still, no_none, none_unlinked, other_is}
 
 -- What waits for a slot's peer, while its session and what it holds change.
 
@@ -100,8 +102,7 @@ within_put slot l m old new linked put within s x there = elim (cases_eq s slot)
 pub marked_put : (conf : Configuration) (t : RoutingState) (slot : ℕ) (l m : Linked) (old new : List (ℕ × Linked)) → AreMarked conf old t → link_at old slot ≡ Some l → m.peer.session ≡ l.peer.session → m.adj_out ≡ l.adj_out → IsNow slot m old new
     → AreMarked conf new t
 marked_put conf t slot l m old new marked linked session adj_out put = record {
-  there = record { within = within_put slot l m old new linked put marked.there.within; known = marked.there.known };
-  released = marked.released;
+  there = record { within = within_put slot l m old new linked put marked.there.within };
   marks = λ s p within. marked_as _ _ t s p (sym (same s p)) (marked.marks s p within);
 }
   where
@@ -122,8 +123,7 @@ pub followed : (now : ℕ) (conf : Configuration) (t : RoutingState) (slot : ℕ
 followed now conf t slot l input asks old new marked linked put news = record {
   within = marked.there.within slot l linked;
   linked = subst (λ o. IsSome o) (sym (now_on slot (moved now l input) old new put)) refl;
-  there = record { within = within_put slot l (moved now l input) old new linked put marked.there.within; known = marked.there.known };
-  released = marked.released;
+  there = record { within = within_put slot l (moved now l input) old new linked put marked.there.within };
   others = λ s p within other. marked_as _ _ t s p (sym (mark_off conf t slot (moved now l input) old new put s p other)) (marked.marks s p within);
   same = λ stays still p why.
       marked_as _ _ t slot p
@@ -172,7 +172,6 @@ followed now conf t slot l input asks old new marked linked put news = record {
 pub marked_asked : (conf : Configuration) (links : List (ℕ × Linked)) (slot : ℕ) (effects : Effects) (asks : Bool) (t : RoutingState) → IsFollowed conf links slot effects asks t → effects.left ≡ false → effects.entered ≡ false → AreMarkedFor (is_other slot) conf links t
 marked_asked conf links slot effects asks t h stays still = record {
   there = h.there;
-  released = h.released;
   marks = λ s p within is. elim (cases_eq s slot) [
     | inl same ↦ subst (λ x. IsMarked (mark_at conf links t x p) t x p) (sym same) (here s p same is)
     | inr other ↦ h.others s p within other
@@ -191,16 +190,10 @@ marked_asked conf links slot effects asks t h stays still = record {
 pub marked_told : (conf : Configuration) (t u : RoutingState) (slot : ℕ) (named : List Prefix) (export : Option (List ℕ)) (l m : Linked) (old new : List (ℕ × Linked)) → AreMarked conf old t → link_at old slot ≡ Some l
     → IsTold named export l m → IsNow slot m old new
     → ((peer : ConfiguredPeer) (p : Prefix) → peer_at conf slot ≡ Some peer → is_among p named ≡ true → export_in conf (best_at (rows_of t.book)) t.adj_in (export_peer_of conf slot peer) p ≡ export)
-    → KeepsTables t u → ((s : ℕ) (p : Prefix) → owed_at u.waiting s p ≡ cond (s == slot && is_among p named) None (owed_at t.waiting s p)) → ((s : ℕ) (o : List ℕ) (p : Prefix) → owed_at u.waiting s p ≡ Some Announcement → IsListed t.alike s o p → IsListed u.alike s o p)
-    → ((s : ℕ) (p : Prefix) → IsSome (route_at t.adj_in s p) → is_known u.waiting p ≡ is_known t.waiting p) → (((p : Prefix) → IsReleased t p) → (p : Prefix) → IsReleased u p) → AreMarked conf new u
-marked_told conf t u slot named export l m old new marked linked told put exported rest owed listed known released = record {
-  there = record {
-    within = within_put slot l m old new linked put marked.there.within;
-    known = λ s p there.
-        let was : IsSome (route_at t.adj_in s p) = subst (λ (x : RoutingState). IsSome (route_at x.adj_in s p)) rest there in
-        known s p was ∙ marked.there.known s p was;
-  };
-  released = released marked.released;
+    → KeepsTables t u → ((p : Prefix) → is_among p named ≡ true → IsAwaited u.waiting slot p None) → ((s : ℕ) (p : Prefix) (w : Option Owed) → (s == slot && is_among p named) ≡ false → IsAwaited t.waiting s p w → IsAwaited u.waiting s p w)
+    → ((s : ℕ) (o : List ℕ) (p : Prefix) → (s == slot && is_among p named) ≡ false → IsAwaited u.waiting s p (Some Announcement) → IsListed t.alike s o p → IsListed u.alike s o p) → AreMarked conf new u
+marked_told conf t u slot named export l m old new marked linked told put exported rest silent others listed = record {
+  there = record { within = within_put slot l m old new linked put marked.there.within };
   marks = λ s p within. marked_as _ _ u s p (ap (λ (x : RoutingState). mark_at conf new x s p) (sym rest)) (here s p within);
 }
   where
@@ -223,16 +216,54 @@ marked_told conf t u slot named export l m old new marked linked told put export
         (told.asked p ∙ ap (λ b. cond b false (asked_at l.adj_out p)) other))
         ∙ ap (mark_of conf t.adj_in t.book slot p (peer_at conf slot)) (sym (now_on slot m old new put))
 
-    owed_here : (p : Prefix) (b : Bool) → is_among p named ≡ b → owed_at u.waiting slot p ≡ cond b None (owed_at t.waiting slot p)
-    owed_here p b is = owed slot p ∙ rw (eq-eqb slot slot refl, is) refl
+    off_slot : (s : ℕ) (p : Prefix) → s ≢ slot → (s == slot && is_among p named) ≡ false
+    off_slot s p other = ap (λ b. b && is_among p named) (ne_eqb s slot other)
+
+    off_named : (p : Prefix) → is_among p named ≡ false → (slot == slot && is_among p named) ≡ false
+    off_named p is = ap (λ b. b && is_among p named) (eq-eqb slot slot refl) ∙ is
 
     by_among : (p : Prefix) → slot < 64 → (b : Bool) → is_among p named ≡ b → IsMarked (mark_at conf new t slot p) u slot p
-    by_among p within true is = marked_none _ u slot p (owed_here p true is) (told_here p is)
-    by_among p within false is = marked_still _ _ t u slot p (marked.marks slot p within) (owed_here p false is) (λ o waits. listed slot o p waits) (of_other p is)
+    by_among p within true is = marked_none _ u slot p (silent p is) (told_here p is)
+    by_among p within false is =
+        marked_still _ _ t u slot p (marked.marks slot p within) (others slot p (mark_at conf old t slot p).owed (off_named p is)) (λ o waits. listed slot o p (off_named p is) waits) (of_other p is)
 
     here : (s : ℕ) (p : Prefix) → s < 64 → IsMarked (mark_at conf new t s p) u s p
     here s p within = elim (cases_eq s slot) [
       | inl same ↦ subst (λ x. IsMarked (mark_at conf new t x p) u x p) (sym same) (by_among p (subst (λ x. x < 64) same within) (is_among p named) refl)
       | inr other ↦
-          marked_still _ _ t u s p (marked.marks s p within) (owed s p ∙ rw (ne_eqb s slot other) refl) (λ o waits. listed s o p waits) (sym (mark_off conf t slot m old new put s p other))
+          marked_still _ _ t u s p (marked.marks s p within) (others s p (mark_at conf old t s p).owed (off_slot s p other)) (λ o waits. listed s o p (off_slot s p other) waits) (sym (mark_off conf t slot m old new put s p other))
     ]
+
+-- where there is no slot, and nothing waits
+pub marked_empty : (conf : Configuration) (links : List (ℕ × Linked)) (t : RoutingState) → links ≡ [] → ((s : ℕ) (p : Prefix) → IsAwaited t.waiting s p None) → AreMarked conf links t
+marked_empty conf links t is none = record {
+  there = record { within = λ s l there. let never = sym (unlinked s) ∙ there in absurd (cc) };
+  marks = λ s p within. marked_none _ t s p (none s p) (ap (λ (m : Mark). m.owed) (mark_unlinked conf links t s p (unlinked s)));
+}
+  where
+    unlinked : (s : ℕ) → link_at links s ≡ None
+    unlinked s = ap (λ ls. link_at ls s) is
+
+-- whether octets are new to a peer, by whether it has just these
+abbrev pub HasJust : Bool → Option (List ℕ) → List ℕ → Bool → Type 0
+HasJust just held octets asked = (just ≡ true → (held ≡ Some octets) × (asked ≡ false)) × ((held ≡ Some octets) × (asked ≡ false) → just ≡ true)
+
+new_unless : (held : Option (List ℕ)) (octets : List ℕ) (asked : Bool) → HasJust false held octets asked → (held ≢ Some octets) ⊎ (asked ≡ true)
+new_unless held octets true is = inr refl
+new_unless held octets false is = inl (λ same. let never = is.1 (same, refl) in cc)
+
+pub new_where : (just : Bool) (held : Option (List ℕ)) (octets : List ℕ) (asked : Bool) → HasJust just held octets asked → OnTrue (not just) ((held ≢ Some octets) ⊎ (asked ≡ true))
+new_where true held octets asked is = tt
+new_where false held octets asked is = new_unless held octets asked is
+
+pub not_new_where : (just : Bool) (held : Option (List ℕ)) (octets : List ℕ) (asked : Bool) → HasJust just held octets asked → OnFalse (not just) ((held ≢ Some octets) ⊎ (asked ≡ true) → ⊥)
+not_new_where true held octets asked is = λ news. let had = is.0 refl in elim news [ inl other ↦ other had.0 | inr again ↦ (let never = had.1 in cc) ]
+not_new_where false held octets asked is = tt
+
+pub on_true-as : (b : Bool) (P Q : Type 0) → OnTrue b P → (P → Q) → OnTrue b Q
+on_true-as true P Q p to = to p
+on_true-as false P Q p to = tt
+
+pub on_false-as : (b : Bool) (P Q : Type 0) → OnFalse b P → (P → Q) → OnFalse b Q
+on_false-as true P Q p to = tt
+on_false-as false P Q p to = to p

@@ -13,19 +13,23 @@ use Rattle.net_prefix.specs.declared.prefix.Prefix.{Prefix}
 use Rattle.rib_in.specs.LatestRoutes.{RouteTable}
 use Rattle.rib_out.specs.Alike.{AlikeState}
 use Rattle.rib_out.specs.Held.{asked_at, held_at, is_prefix}
-use Rattle.rib_out.specs.Waiting.{owed_at}
+use Rattle.rib_out.specs.Waiting.{WaitingState}
 use Rattle.rib_out.specs.declared.marks.Owed.TheVariants.{Announcement}
-use Rattle.rib_out.specs.declared.waits.Waits.{Waits}
 use Rattle.rib_out.proofs.HeldTables.{held_if_asked}
 use Rattle.routing.specs.Export.{export_in, export_peer_of}
 use Rattle.routing.specs.Linked.{Linked}
-use Rattle.routing.specs.Marks.{AreMarked, mark_for, mark_of, no_mark, owed_for}
+use Rattle.routing.specs.Marks.{AreMarked, IsNextMarked, IsNextOf, mark_for, mark_of, no_mark, owed_for}
 use Rattle.routing.specs.RoutesState.{RoutesState}
 use Rattle.routing.specs.Tables.{best_at, link_at}
 use Rattle.routing.specs.Waiting.{differing, is_same, known_prefixes, waiting_at}
 use Rattle.routes.specs.WaitingRows.{is_waiting}
 use Rattle.routing.proofs.Owing.{routing_of}
 use Rattle.routing.proofs.WaitingLists.{any_differing}
+
+-- the next one stands above
+pub next_above : (There : Prefix → Type 0) (after r : Option Prefix) → IsNextOf There after r → IfSome r (λ p. IsAbove after p)
+next_above There after None h = tt
+next_above There after (Some p) h = h.1
 
 abbrev is_member : Prefix → List Prefix → Bool
 is_member q prefixes = list_any (is_prefix q) prefixes
@@ -59,25 +63,27 @@ waits_of conf adj_in book slot q (Some peer) (Some l) = by_state (is_established
         ∙ owed_some export (held_at l.adj_out q) (asked_at l.adj_out q) (held_if_asked l.adj_out q)
     by_state false = refl
 
-module _ (s : RoutesState) (waiting : List (Prefix × Waits)) (alike : AlikeState) (slot : ℕ) (marked : AreMarked s.conf s.links (routing_of s waiting alike)) where
+module _ (s : RoutesState) (waiting : WaitingState) (alike : AlikeState) (slot : ℕ) where
   -- a prefix waits just where something is owed of it
-  waits_is : slot < 64 → (q : Prefix) → is_waiting s slot q ≡ is_some (owed_at waiting slot q)
-  waits_is within q =
-      waits_of s.conf s.adj_in s.book slot q (peer_at s.conf slot) (link_at s.links slot) ∙ sym (ap is_some (marked.marks slot q within).waits)
+  waits_is : (q : Prefix) → is_waiting s slot q ≡ is_some (mark_of s.conf s.adj_in s.book slot q (peer_at s.conf slot) (link_at s.links slot)).owed
+  waits_is q = waits_of s.conf s.adj_in s.book slot q (peer_at s.conf slot) (link_at s.links slot)
 
-  module _ (within : slot < 64) (after : Option Prefix) where
-    pub owed_has : (r : Option Prefix) → IfSome r (λ p. IsSome (owed_at waiting slot p)) → IfSome r (λ p. is_waiting s slot p ≡ true)
-    owed_has None has = tt
-    owed_has (Some p) has = waits_is within p ∙ has
+  none_from : (b : Bool) → (b ≡ true → ⊥) → b ≡ false
+  none_from true not = absurd (not refl)
+  none_from false not = refl
 
-    pub owed_least : (r : Option Prefix) → IfSome r (λ p. (q : Prefix) → IsAbove after q → IsSome (owed_at waiting slot q) → is_gt (prefix_cmp p q) ≡ false)
-        → IfSome r (λ p. (q : Prefix) → IsAbove after q → is_waiting s slot q ≡ true → is_gt (prefix_cmp p q) ≡ false)
-    owed_least None least = tt
-    owed_least (Some p) least = λ q above waits. least q above (sym (waits_is within q) ∙ waits)
+  module _ (after : Option Prefix) where
+    pub owed_has : (r : Option Prefix) → IsNextMarked s.conf s.links (routing_of s waiting alike) slot after r → IfSome r (λ p. is_waiting s slot p ≡ true)
+    owed_has None h = tt
+    owed_has (Some p) h = waits_is p ∙ h.0
 
-    pub owed_none : (r : Option Prefix) → IfNone r ((q : Prefix) → IsAbove after q → owed_at waiting slot q ≡ None) → IfNone r ((q : Prefix) → IsAbove after q → is_waiting s slot q ≡ false)
-    owed_none None none = λ q above. waits_is within q ∙ ap is_some (none q above)
-    owed_none (Some p) none = tt
+    pub owed_least : (r : Option Prefix) → IsNextMarked s.conf s.links (routing_of s waiting alike) slot after r → IfSome r (λ p. (q : Prefix) → IsAbove after q → is_waiting s slot q ≡ true → is_gt (prefix_cmp p q) ≡ false)
+    owed_least None h = tt
+    owed_least (Some p) h = λ q above waits. h.2 q above (sym (waits_is q) ∙ waits)
+
+    pub owed_none : (r : Option Prefix) → IsNextMarked s.conf s.links (routing_of s waiting alike) slot after r → IfNone r ((q : Prefix) → IsAbove after q → is_waiting s slot q ≡ false)
+    owed_none None h = λ q above. none_from (is_waiting s slot q) (λ waits. h q above (sym (waits_is q) ∙ waits))
+    owed_none (Some p) h = tt
 
   unlinked : (q : Prefix) (found : Option ConfiguredPeer) (linked : Option Linked) → ((l : Linked) → linked ≡ Some l → slot < 64) → 64 ≤ slot
       → is_member q (waiting_at s.conf (rows_of s.book) s.adj_in (option_map (export_peer_of s.conf slot) found) linked) ≡ false
@@ -86,5 +92,5 @@ module _ (s : RoutesState) (waiting : List (Prefix × Waits)) (alike : AlikeStat
   unlinked q (Some peer) (Some l) within beyond = let low = within l refl in absurd (omega (arith, low, beyond))
 
   -- nothing waits for a slot that can't be there
-  pub none_beyond : 64 ≤ slot → (q : Prefix) → is_waiting s slot q ≡ false
-  none_beyond beyond q = unlinked q (peer_at s.conf slot) (link_at s.links slot) (marked.there.within slot) beyond
+  pub none_beyond : AreMarked s.conf s.links (routing_of s waiting alike) → 64 ≤ slot → (q : Prefix) → is_waiting s slot q ≡ false
+  none_beyond marked beyond q = unlinked q (peer_at s.conf slot) (link_at s.links slot) (marked.there.within slot) beyond

@@ -20,8 +20,7 @@ use arrayvec::ArrayVec;
 use decision::Book;
 use export_rules::ExportPeer;
 use net_prefix::Prefix;
-use rib_out::Owed;
-use routing::{Octets, place};
+use routing::{Link, Octets, place};
 use std::alloc::Allocator;
 
 /// The octets that an UPDATE has for prefixes and attributes: 4,096 without 19 of the header and 4 of the two lengths.
@@ -155,7 +154,8 @@ impl<A: Allocator + Clone, B: Book<A>> Routes<A, B> {
         ensures above { IfSome result (λ p. rank_of last < rank_of p) }
         ensures behind { (l : Linked) → link_at self.now.links slot ≡ Some l → l.peer.session.state ≡ Established → IsBehind (IsDue (export_of self.now slot) (Some octets.now.items) l) last result }
     {
-        self.routing.possible_after(slot, octets.as_slice(), last)
+        self.routing
+            .possible_after(&self.conf, &self.links, slot, octets.as_slice(), last)
     }
 
     // Whether the prefix waits for the slot to be announced with these octets.
@@ -172,9 +172,36 @@ impl<A: Allocator + Clone, B: Book<A>> Routes<A, B> {
         ensures due { OnTrue result ((l : Linked) → link_at self.now.links slot ≡ Some l → l.peer.session.state ≡ Established → IsDue (export_of self.now slot) (Some octets.now.items) l prefix) }
         ensures other { OnFalse result ((l : Linked) → link_at self.now.links slot ≡ Some l → l.peer.session.state ≡ Established → IsDue (export_of self.now slot) (Some octets.now.items) l prefix → ⊥) }
     {
-        if self.routing.owed(slot, prefix) != Some(Owed::Announcement) {
+        let Some(link) = self.links.get(&slot) else {
+            return false;
+        };
+        if !self.is_exported_so(slot, peer, prefix, octets, other) {
             return false;
         }
+        is_new_to(link, prefix, octets)
+    }
+
+    // Whether just these octets are exported of the prefix to the slot's peer.
+    fn is_exported_so(
+        &self,
+        slot: u8,
+        peer: &ExportPeer,
+        prefix: Prefix,
+        octets: &Octets,
+        other: &mut Octets,
+    ) -> bool
+        requires { Some peer.now ≡ option_map (export_peer_of self.now.conf slot) (peer_at self.now.conf slot) }
+        ensures same { OnTrue result (export_of self.now slot prefix ≡ Some octets.now.items) }
+        ensures other { OnFalse result (export_of self.now slot prefix ≢ Some octets.now.items) }
+    {
         self.export(peer, prefix, other) && other.as_slice() == octets.as_slice()
     }
+}
+
+// Whether these octets of the prefix are new to the slot's peer: it doesn't hold just them, or has asked for them again.
+fn is_new_to<A: Allocator + Clone>(link: &Link<A>, prefix: Prefix, octets: &Octets) -> bool
+    ensures yes { OnTrue result (IsNewTo link.now prefix (Some octets.now.items)) }
+    ensures no { OnFalse result (IsNewTo link.now prefix (Some octets.now.items) → ⊥) }
+{
+    !link.adj_out.has_just(prefix, octets.as_slice())
 }

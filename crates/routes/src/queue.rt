@@ -34,7 +34,8 @@ impl<A: Allocator + Clone, B: Book<A>> Routes<A, B> {
         ensures next { (peer : ConfiguredPeer) (l : Linked) → peer_at self.now.conf slot ≡ Some peer → link_at self.now.links slot ≡ Some l → l.peer.session.state ≡ Established
             → IsNext (λ q. withdrawn_of (export_of self.now slot q) (held_at l.adj_out q)) after result }
     {
-        self.routing.next(slot, Owed::Withdrawal, after)
+        self.routing
+            .next(&self.conf, &self.links, slot, Owed::Withdrawal, after)
     }
 
     /// The least prefix above the given one, or of all, that is exported to an Established peer and that it doesn't hold
@@ -46,7 +47,8 @@ impl<A: Allocator + Clone, B: Book<A>> Routes<A, B> {
         ensures next { (peer : ConfiguredPeer) (l : Linked) → peer_at self.now.conf slot ≡ Some peer → link_at self.now.links slot ≡ Some l → l.peer.session.state ≡ Established
             → IsNext (λ q. announced_of (export_of self.now slot q) (held_at l.adj_out q) (asked_at l.adj_out q)) after result }
     {
-        self.routing.next(slot, Owed::Announcement, after)
+        self.routing
+            .next(&self.conf, &self.links, slot, Owed::Announcement, after)
     }
 
     /// Tells an Established peer withdrawals: of the prefixes that it holds and that aren't exported to it, from this one
@@ -122,5 +124,15 @@ impl<A: Allocator + Clone, B: Book<A>> Routes<A, B> {
         self.routing
             .announced_all(slot, octets.as_slice(), draft.named.as_slice());
         Ok(())
+    }
+
+    /// Where memory was refused to what waits for the slot and nothing is owed to its peer any more, what waits is kept in
+    /// order again. Nothing that is shown changes.
+    pub fn renew_queue(&mut self, slot: u8)
+        requires { slot < 64 }
+        ensures same { self.new ≡ self.old }
+        ensures payloads { self.new.payloads ≡ self.old.payloads }
+    {
+        self.routing.renew_queue(&self.conf, &self.links, slot);
     }
 }

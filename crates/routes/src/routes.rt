@@ -13,6 +13,7 @@ ghost use Rattle.net_prefix.specs.declared.prefix.Prefix.{Prefix as ThePrefix};
 ghost use Rattle.prefix_trie.specs.TrieWalks.{all_after};
 ghost use Rattle.rib_in.specs.LatestRoutes.{HasRoute, route_at, routes_of};
 ghost use Rattle.rib_out.specs.Held.{is_prefix};
+ghost use Rattle.rib_out.specs.Waiting.{IsAwaited};
 ghost use Rattle.local_exceptions.specs.ExceptionSets.{behind};
 ghost use Rattle.origin_valid.specs.Stretches.{changed_prefixes, stretches};
 ghost use Rattle.routing.specs.Chosen.{OncePerPrefix};
@@ -97,7 +98,8 @@ impl<A: Allocator + Clone + Copy, B: Book<A>> Routes<A, B> {
     // These parts, in which there is nothing, as one value.
     fn empty(alloc: A, conf: Conf<A>, routing: Routing<A, B>, recent: RecentOctets<A>) -> Self
         requires conf { conf ≡ (begun conf.own).conf }
-        requires routing { routing ≡ started routing.alike }
+        requires routing { routing ≡ started routing.waiting routing.alike }
+        requires none { (s : ℕ) (p : ThePrefix) → IsAwaited routing.waiting s p None }
         ensures { result ≡ begun conf.own }
     {
         Routes {

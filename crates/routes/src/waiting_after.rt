@@ -83,6 +83,6 @@ impl<A: Allocator + Clone, B: Book<A>> Routes<A, B> {
         if slot >= PEER_SLOTS {
             return None;
         }
-        routing.next_owed(slot, after)
+        routing.next_owed(&self.conf, &self.links, slot, after)
     }
 }

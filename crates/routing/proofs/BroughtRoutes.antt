@@ -1,4 +1,4 @@
-use Rattle.std.proofs.Common.{◌≡◌, ◌≢◌, ◌<◌, ◌==◌, ◌&&◌, ℕ, Bool, true, false, List, [], ◌∷◌, ◌++◌, All, Option, Some, None, cond, refl, sym, ap, ◌∙◌, subst}
+use Rattle.std.proofs.Common.{◌≡◌, ◌≢◌, ◌<◌, ◌==◌, ◌&&◌, ℕ, Bool, true, false, List, [], ◌∷◌, ◌++◌, All, Option, Some, None, Result, Ok, Err, OnOk, OnErr, cond, refl, sym, ap, ◌∙◌, subst}
 use Rattle.std.specs.Option.{IfSome, IsSome, is_some, option_and_then}
 use Rattle.std.specs.Ordering.{is_eq}
 use Rattle.std.proofs.lemmas.Bool.{eq-eqb, eqb-true, ne_eqb}
@@ -14,13 +14,13 @@ use Rattle.net_prefix.specs.declared.prefix.Prefix.{Prefix}
 use Rattle.rib_in.specs.LatestRoutes.{RouteTable, is_route, route_at}
 use Rattle.rib_out.specs.Alike.{IsListed}
 use Rattle.rib_out.specs.Held.{asked_at, held_at}
-use Rattle.rib_out.specs.Waiting.{is_known, owed_at}
+use Rattle.rib_out.specs.Waiting.{IsAwaited}
 use Rattle.routing.specs.Export.{export_in, export_peer_of, exported_at}
 use Rattle.routing.specs.Linked.{Linked}
-use Rattle.routing.specs.Marks.{AreMarked, IsReleased, mark_at, mark_for, mark_of, no_mark}
+use Rattle.routing.specs.Marks.{AreMarked, mark_at, mark_for, mark_of, no_mark}
 use Rattle.routing.specs.RoutingState.{RoutingState}
 use Rattle.routing.specs.Tables.{best_at, link_at}
-use Rattle.routing.proofs.Marking.{all_released, known_come, known_else, mark_alike, marked_still, off_prefix, released_alike, routes_off}
+use Rattle.routing.proofs.Marking.{mark_alike, marked_still, off_prefix}
 use Rattle.routing.proofs.Places.{same_from_is_prefix}
 use Rattle.routing.proofs.RouteChanges.{is_route-parts}
 use Rattle.rib_out.proofs.Prefixes.{is_prefix-refl}
@@ -47,32 +47,17 @@ mark_other_of conf t u slot p (Some peer) (Some l) exports =
 -- a route came to a prefix of which the best route is another slot's
 pub record Comes (slot : ℕ) (prefix : Prefix) (attrs : PathAttributes) (t u : RoutingState) : Type 0 where
   pub alike : u.alike ≡ t.alike
-  pub owed : (s : ℕ) (p : Prefix) → owed_at u.waiting s p ≡ owed_at t.waiting s p
-  pub known : (p : Prefix) → is_known u.waiting p ≡ cond (is_prefix prefix p) true (is_known t.waiting p)
+  pub waiting : u.waiting ≡ t.waiting
   pub routes : (s : ℕ) (p : Prefix) → route_at u.adj_in s p ≡ cond (is_route slot prefix s p) (Some attrs) (route_at t.adj_in s p)
   pub rows : rows_of u.book ≡ rows_of t.book
   pub other : IfSome (best_at (rows_of t.book) prefix) (λ c. c.slot ≢ slot)
 
 pub marked_come : (conf : Configuration) (links : List (ℕ × Linked)) (slot : ℕ) (prefix : Prefix) (attrs : PathAttributes) (t u : RoutingState) → AreMarked conf links t → Comes slot prefix attrs t u → AreMarked conf links u
 marked_come conf links slot prefix attrs t u marked h = record {
-  there = record {
-    within = marked.there.within;
-    known = known_come links prefix t u marked.there h.known (routes_off slot prefix (Some attrs) t.adj_in u.adj_in h.routes);
-  };
-  released = λ p. by_prefix p (is_prefix prefix p) refl;
-  marks = λ s p within. marked_still _ _ t u s p (marked.marks s p within) (h.owed s p) (λ o waits listed. subst (λ a. IsListed a s o p) (sym h.alike) listed) (sym (same_mark s p));
+  there = marked.there;
+  marks = λ s p within. marked_still _ _ t u s p (marked.marks s p within) (subst (λ q. IsAwaited q s p (mark_at conf links t s p).owed) (sym h.waiting)) (λ o waits listed. subst (λ a. IsListed a s o p) (sym h.alike) listed) (sym (same_mark s p));
 }
   where
-    by_prefix : (p : Prefix) (b : Bool) → is_prefix prefix p ≡ b → IsReleased u p
-    by_prefix p true is = record {
-      unknown = λ unrouted idle.
-          let here : is_route slot prefix slot p ≡ true = is_route-parts slot prefix slot p ∙ rw (eq-eqb slot slot refl, is) refl in
-          let never = sym (unrouted slot) ∙ h.routes slot p ∙ ap (λ b. cond b (Some attrs) (route_at t.adj_in slot p)) here in
-          absurd (cc);
-    }
-    by_prefix p false is =
-        released_alike t u p (marked.released p) (λ s. routes_off slot prefix (Some attrs) t.adj_in u.adj_in h.routes s p is) (λ s few. h.owed s p) (known_else prefix t.waiting u.waiting h.known p is)
-
     off : (p : Prefix) (c : Candidate) → best_at (rows_of t.book) p ≡ Some c → (b : Bool) → is_prefix prefix p ≡ b → is_route slot prefix c.slot p ≡ false
     off p c best false is = off_prefix slot c.slot prefix p is
     off p c best true is =
@@ -87,13 +72,15 @@ marked_come conf links slot prefix attrs t u marked h = record {
         ap (λ r. export_in conf (best_at r) u.adj_in peer p) h.rows
         ∙ export_other conf (best_at (rows_of t.book)) t.adj_in u.adj_in peer p (λ c best. h.routes c.slot p ∙ ap (λ b. cond b (Some attrs) (route_at t.adj_in c.slot p)) (off p c best (is_prefix prefix p) refl)))
 
--- none came
-pub marked_refused : (conf : Configuration) (links : List (ℕ × Linked)) (prefix : Prefix) (t u : RoutingState) → AreMarked conf links t → u.alike ≡ t.alike → ((s : ℕ) (p : Prefix) → owed_at u.waiting s p ≡ owed_at t.waiting s p)
-    → ((s : ℕ) (p : Prefix) → route_at u.adj_in s p ≡ route_at t.adj_in s p) → rows_of u.book ≡ rows_of t.book → ((p : Prefix) → is_prefix prefix p ≡ false → is_known u.waiting p ≡ is_known t.waiting p)
-    → ((s : ℕ) (p : Prefix) → IsSome (route_at u.adj_in s p) → is_known u.waiting p ≡ true) → IsReleased u prefix → AreMarked conf links u
-marked_refused conf links prefix t u marked alike owed routes rows else_known known here = record {
-  there = record { within = marked.there.within; known = known };
-  released = all_released prefix t u routes (λ s p few other. owed s p) else_known here (λ p other. marked.released p);
+-- one came, or none
+pub marked_brought : {T F : Type 0} (result : Result T F) (conf : Configuration) (links : List (ℕ × Linked)) (slot : ℕ) (prefix : Prefix) (attrs : PathAttributes) (t u : RoutingState) → AreMarked conf links t → u.alike ≡ t.alike → u.waiting ≡ t.waiting
+    → OnOk result ((s : ℕ) (p : Prefix) → route_at u.adj_in s p ≡ cond (is_route slot prefix s p) (Some attrs) (route_at t.adj_in s p)) → OnErr result ((s : ℕ) (p : Prefix) → route_at u.adj_in s p ≡ route_at t.adj_in s p)
+    → rows_of u.book ≡ rows_of t.book → IfSome (best_at (rows_of t.book) prefix) (λ c. c.slot ≢ slot) → AreMarked conf links u
+marked_brought (Ok done) conf links slot prefix attrs t u marked alike waiting came refused rows other =
+    marked_come conf links slot prefix attrs t u marked (record { alike = alike; waiting = waiting; routes = came; rows = rows; other = other })
+marked_brought (Err why) conf links slot prefix attrs t u marked alike waiting came refused rows other = record {
+  there = marked.there;
   marks = λ s p within.
-      marked_still _ _ t u s p (marked.marks s p within) (owed s p) (λ o waits listed. subst (λ a. IsListed a s o p) (sym alike) listed) (sym (mark_alike conf links t u s p (ap (λ r. best_at r p) rows) (λ s. routes s p)));
+      marked_still _ _ t u s p (marked.marks s p within) (subst (λ q. IsAwaited q s p (mark_at conf links t s p).owed) (sym waiting)) (λ o waits listed. subst (λ a. IsListed a s o p) (sym alike) listed)
+      (sym (mark_alike conf links t u s p (ap (λ r. best_at r p) rows) (λ s. refused s p)));
 }

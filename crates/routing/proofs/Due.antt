@@ -7,20 +7,19 @@ use Rattle.std.proofs.lemmas.Slice.Eq.{bytes_eq-Decides}
 use Rattle.bgp_fsm.specs.declared.state.State.TheVariants.{Established}
 use Rattle.net_prefix.specs.PrefixOrder.{prefix_cmp, IsAbove}
 use Rattle.net_prefix.specs.declared.prefix.Prefix.{Prefix}
-use Rattle.rib_out.specs.Alike.{AlikeState, IsListed}
+use Rattle.rib_out.specs.Alike.{AlikeState}
 use Rattle.rib_out.specs.Held.{asked_at, held_at}
-use Rattle.rib_out.specs.Waiting.{owed_at}
-use Rattle.rib_out.specs.declared.waits.Waits.{Waits}
+use Rattle.rib_out.specs.Waiting.{WaitingState}
 use Rattle.rib_out.specs.declared.marks.Owed.TheVariants.{Announcement}
 use Rattle.rib_out.proofs.HeldTables.{held_if_asked}
 use Rattle.routing.specs.Linked.{Linked}
-use Rattle.routing.specs.Marks.{AreMarked, owed_for}
+use Rattle.routing.specs.Marks.{IsMarkedSo, mark_at, owed_for}
 use Rattle.routing.specs.Owing.{IsNext, withdrawn_of}
 use Rattle.routing.specs.Packing.{IsBehind, IsDue, IsFrom, IsNewTo}
 use Rattle.routing.specs.Places.{rank_of}
 use Rattle.routing.specs.RoutesState.{RoutesState, export_of}
 use Rattle.routing.specs.Tables.{link_at}
-use Rattle.routing.proofs.Owing.{announced_listed, peer_told, routing_of}
+use Rattle.routing.proofs.Owing.{announced_so, peer_told, routing_of}
 use Rattle.routing.proofs.Places.{above_from_rank, greater_from_rank, rank_from_above, same_from_rank}
 
 -- What is due to a peer, by what waits for it.
@@ -135,41 +134,16 @@ pub ranked_above : (last : Prefix) (next : Option Prefix) → IfSome next (λ p.
 ranked_above last None above = tt
 ranked_above last (Some p) above = omega (arith, rank_from_above (Some last) p above)
 
--- the next that waits, whatever is listed
-module _ (waiting : List (Prefix × Waits)) (alike : AlikeState) (slot : ℕ) (octets : List ℕ) (last : Prefix) where
-  pub least_listed : (next : Option Prefix) → IfSome next (λ p. (q : Prefix) → IsAbove (Some last) q → owed_at waiting slot q ≡ Some Announcement → is_gt (prefix_cmp p q) ≡ false)
-      → IfSome next (λ p. (q : Prefix) → IsAbove (Some last) q → owed_at waiting slot q ≡ Some Announcement → IsListed alike slot octets q → is_gt (prefix_cmp p q) ≡ false)
-  least_listed None least = tt
-  least_listed (Some p) least = λ q over waits listed. least q over waits
-
-  -- the next that is listed, whatever waits
-  pub least_waiting : (next : Option Prefix) → IfSome next (λ p. (q : Prefix) → IsAbove (Some last) q → IsListed alike slot octets q → is_gt (prefix_cmp p q) ≡ false)
-      → IfSome next (λ p. (q : Prefix) → IsAbove (Some last) q → owed_at waiting slot q ≡ Some Announcement → IsListed alike slot octets q → is_gt (prefix_cmp p q) ≡ false)
-  least_waiting None least = tt
-  least_waiting (Some p) least = λ q over waits listed. least q over listed
-
-  pub none_waiting : (next : Option Prefix) → IfNone next ((q : Prefix) → IsAbove (Some last) q → IsListed alike slot octets q → ⊥)
-      → IfNone next ((q : Prefix) → IsAbove (Some last) q → owed_at waiting slot q ≡ Some Announcement → IsListed alike slot octets q → ⊥)
-  none_waiting None none = λ q over waits listed. none q over listed
-  none_waiting (Some p) none = tt
-
-  pub none_listed : (next : Option Prefix) → IfNone next ((q : Prefix) → IsAbove (Some last) q → owed_at waiting slot q ≢ Some Announcement)
-      → IfNone next ((q : Prefix) → IsAbove (Some last) q → owed_at waiting slot q ≡ Some Announcement → IsListed alike slot octets q → ⊥)
-  none_listed None none = λ q over waits listed. none q over waits
-  none_listed (Some p) none = tt
-
--- what is due to be announced with these octets waits, and is listed by them
-module _ (s : RoutesState) (waiting : List (Prefix × Waits)) (alike : AlikeState) (slot : ℕ) (l : Linked) (octets : List ℕ) (last : Prefix) (marked : AreMarked s.conf s.links (routing_of s waiting alike)) (within : slot < 64)
-    (linked : link_at s.links slot ≡ Some l) (established : l.peer.session.state ≡ Established) where
-  listed_due : (q : Prefix) → IsDue (export_of s slot) (Some octets) l q → (owed_at waiting slot q ≡ Some Announcement) × IsListed alike slot octets q
-  listed_due q due =
+-- what is due to be announced with these octets is owed with them
+module _ (s : RoutesState) (waiting : WaitingState) (alike : AlikeState) (slot : ℕ) (l : Linked) (octets : List ℕ) (last : Prefix) (linked : link_at s.links slot ≡ Some l) (established : l.peer.session.state ≡ Established) where
+  so_due : (q : Prefix) → IsDue (export_of s slot) (Some octets) l q → IsMarkedSo (mark_at s.conf s.links (routing_of s waiting alike) slot q) octets
+  so_due q due =
       let told = peer_told s slot q octets due.0 in
-      announced_listed s waiting alike slot told.0 l octets q marked within told.1 linked established due.0
-      (announced_due octets (export_of s slot q) (held_at l.adj_out q) (asked_at l.adj_out q) due.0 due.1)
+      announced_so s waiting alike slot told.0 l octets q told.1 linked established due.0 (announced_due octets (export_of s slot q) (held_at l.adj_out q) (asked_at l.adj_out q) due.0 due.1)
 
-  -- so it stands no lower than the next that waits and is listed so
-  pub behind_listed : (next : Option Prefix)
-      → IfSome next (λ p. (q : Prefix) → IsAbove (Some last) q → owed_at waiting slot q ≡ Some Announcement → IsListed alike slot octets q → is_gt (prefix_cmp p q) ≡ false)
-      → IfNone next ((q : Prefix) → IsAbove (Some last) q → owed_at waiting slot q ≡ Some Announcement → IsListed alike slot octets q → ⊥) → IsBehind (IsDue (export_of s slot) (Some octets) l) last next
-  behind_listed None least none = λ q due above. let here = listed_due q due in none q (above_from_rank (Some last) q (omega (arith, above))) here.0 here.1
-  behind_listed (Some n) least none = λ q due above. let here = listed_due q due in low_or n q (least q (above_from_rank (Some last) q (omega (arith, above))) here.0 here.1)
+  -- so it stands no lower than the next that is owed so
+  pub behind_so : (next : Option Prefix)
+      → IfSome next (λ p. (q : Prefix) → IsAbove (Some last) q → IsMarkedSo (mark_at s.conf s.links (routing_of s waiting alike) slot q) octets → is_gt (prefix_cmp p q) ≡ false)
+      → IfNone next ((q : Prefix) → IsAbove (Some last) q → IsMarkedSo (mark_at s.conf s.links (routing_of s waiting alike) slot q) octets → ⊥) → IsBehind (IsDue (export_of s slot) (Some octets) l) last next
+  behind_so None least none = λ q due above. none q (above_from_rank (Some last) q (omega (arith, above))) (so_due q due)
+  behind_so (Some n) least none = λ q due above. low_or n q (least q (above_from_rank (Some last) q (omega (arith, above))) (so_due q due))

@@ -1,7 +1,6 @@
 pub mod BroughtPrefixes
 pub mod BroughtRoutes
 pub mod CandidateLists
-pub mod Clearing
 pub mod Counting
 pub mod Due
 pub mod Exported
@@ -9,6 +8,7 @@ pub mod Feasible
 pub mod HeardOffers
 pub mod KeptOffers
 pub mod Marking
+pub mod MarkedNexts
 pub mod MergedPrefixes
 pub mod NamedPrefixes
 pub mod NeededMemory

@@ -10,16 +10,14 @@ use Rattle.decision.specs.BookContents.{rows_of}
 use Rattle.net_prefix.specs.PrefixOrder.{prefix_cmp, IsAbove}
 use Rattle.net_prefix.specs.declared.payload.Vrp.{Vrp}
 use Rattle.net_prefix.specs.declared.prefix.Prefix.{Prefix}
-use Rattle.prefix_trie.specs.TrieMap.{found}
-use Rattle.rib_out.specs.Alike.{AlikeState, IsListed}
+use Rattle.rib_out.specs.Alike.{AlikeState}
 use Rattle.rib_out.specs.Held.{asked_at, held_at}
-use Rattle.rib_out.specs.Waiting.{is_known, owed_at, owed_by}
+use Rattle.rib_out.specs.Waiting.{WaitingState}
 use Rattle.rib_out.specs.declared.marks.Owed.{Owed}
 use Rattle.rib_out.specs.declared.marks.Owed.TheVariants.{Announcement, Withdrawal}
-use Rattle.rib_out.specs.declared.waits.Waits.{Waits}
 use Rattle.routing.specs.Export.{export_in, export_peer_of}
 use Rattle.routing.specs.Linked.{Linked}
-use Rattle.routing.specs.Marks.{AreMarked, Mark, mark_for, mark_of, no_mark, octets_of, owed_for}
+use Rattle.routing.specs.Marks.{IsMarkedSo, IsNextOf, IsNextOwed, Mark, mark_at, mark_for, mark_of, no_mark, octets_of, owed_for}
 use Rattle.routing.specs.Owing.{IsNext, IsServed, announced_of, withdrawn_of}
 use Rattle.routing.specs.RoutesState.{RoutesState, export_of}
 use Rattle.routing.specs.RoutingState.{RoutingState}
@@ -29,7 +27,7 @@ use Rattle.routing.proofs.WaitingLists.{not_established}
 -- What a served peer is owed is what waits for its slot.
 
 -- the tables, with what waits
-abbrev pub routing_of : RoutesState → List (Prefix × Waits) → AlikeState → RoutingState
+abbrev pub routing_of : RoutesState → WaitingState → AlikeState → RoutingState
 routing_of s waiting alike = record { adj_in = s.adj_in; book = s.book; chosen = s.chosen; waiting = waiting; alike = alike }
 
 -- the routes with these tables
@@ -49,12 +47,10 @@ mark_is s slot peer l q configured linked established =
     ∙ ap (λ state. cond (is_established state) (mark_for (export_in s.conf (best_at (rows_of s.book)) s.adj_in (export_peer_of s.conf slot peer) q) (held_at l.adj_out q) (asked_at l.adj_out q)) no_mark) established
     ∙ ap (λ e. mark_for e (held_at l.adj_out q) (asked_at l.adj_out q)) (sym (export_found s slot peer q configured))
 
--- what waits for a served peer
-pub owed_is : (s : RoutesState) (waiting : List (Prefix × Waits)) (alike : AlikeState) (slot : ℕ) (peer : ConfiguredPeer) (l : Linked) (q : Prefix) → AreMarked s.conf s.links (routing_of s waiting alike) → slot < 64
-    → peer_at s.conf slot ≡ Some peer → link_at s.links slot ≡ Some l → l.peer.session.state ≡ Established
-    → owed_at waiting slot q ≡ owed_for (export_of s slot q) (held_at l.adj_out q) (asked_at l.adj_out q)
-owed_is s waiting alike slot peer l q marked within configured linked established =
-    (marked.marks slot q within).waits ∙ ap (λ (m : Mark). m.owed) (mark_is s slot peer l q configured linked established)
+-- what is owed to a served peer
+pub owed_is : (s : RoutesState) (waiting : WaitingState) (alike : AlikeState) (slot : ℕ) (peer : ConfiguredPeer) (l : Linked) (q : Prefix) → peer_at s.conf slot ≡ Some peer → link_at s.links slot ≡ Some l → l.peer.session.state ≡ Established
+    → (mark_at s.conf s.links (routing_of s waiting alike) slot q).owed ≡ owed_for (export_of s slot q) (held_at l.adj_out q) (asked_at l.adj_out q)
+owed_is s waiting alike slot peer l q configured linked established = ap (λ (m : Mark). m.owed) (mark_is s slot peer l q configured linked established)
 
 -- a withdrawal waits just where something is held and nothing is exported
 withdrawal_some : (export held : Option (List ℕ)) (asked : Bool) → IsSome (withdrawn_of export held) → owed_for export held asked ≡ Some Withdrawal
@@ -95,52 +91,24 @@ not_some : {X : Type 0} (o : Option X) → (IsSome o → ⊥) → o ≡ None
 not_some None not = refl
 not_some (Some x) not = absurd (not refl)
 
--- the next prefix of which this waits
-next_by : {X : Type 0} (there : Prefix → Option X) (waiting : List (Prefix × Waits)) (slot : ℕ) (owed : Owed) (after : Option Prefix) (result : Option Prefix)
-    → ((q : Prefix) → IsSome (there q) → owed_at waiting slot q ≡ Some owed) → ((q : Prefix) → owed_at waiting slot q ≡ Some owed → IsSome (there q))
-    → IfSome result (λ p. owed_at waiting slot p ≡ Some owed) → IfSome result (λ p. IsAbove after p)
-    → IfSome result (λ p. (q : Prefix) → IsAbove after q → owed_at waiting slot q ≡ Some owed → is_gt (prefix_cmp p q) ≡ false)
-    → IfNone result ((q : Prefix) → IsAbove after q → owed_at waiting slot q ≡ Some owed → ⊥) → IsNext there after result
-next_by there waiting slot owed after None from to has above least none = λ q over. not_some (there q) (λ some. none q over (from q some))
-next_by there waiting slot owed after (Some p) from to has above least none = (to p has, above, λ q over some. least q over (from q some))
+-- the next prefix of which this is owed
+next_by : {X : Type 0} (there : Prefix → Option X) (There : Prefix → Type 0) (after result : Option Prefix) → ((q : Prefix) → IsSome (there q) → There q) → ((q : Prefix) → There q → IsSome (there q)) → IsNextOf There after result → IsNext there after result
+next_by there There after None from to h = λ q over. not_some (there q) (λ some. h q over (from q some))
+next_by there There after (Some p) from to h = (to p h.0, h.1, λ q over some. h.2 q over (from q some))
 
-pub next_withdrawn : (s : RoutesState) (waiting : List (Prefix × Waits)) (alike : AlikeState) (slot : ℕ) (peer : ConfiguredPeer) (l : Linked) (after result : Option Prefix) → AreMarked s.conf s.links (routing_of s waiting alike) → slot < 64
-    → peer_at s.conf slot ≡ Some peer → link_at s.links slot ≡ Some l → l.peer.session.state ≡ Established
-    → IfSome result (λ p. owed_at waiting slot p ≡ Some Withdrawal) → IfSome result (λ p. IsAbove after p)
-    → IfSome result (λ p. (q : Prefix) → IsAbove after q → owed_at waiting slot q ≡ Some Withdrawal → is_gt (prefix_cmp p q) ≡ false)
-    → IfNone result ((q : Prefix) → IsAbove after q → owed_at waiting slot q ≡ Some Withdrawal → ⊥) → IsNext (λ q. withdrawn_of (export_of s slot q) (held_at l.adj_out q)) after result
-next_withdrawn s waiting alike slot peer l after result marked within configured linked established has above least none =
-    next_by (λ q. withdrawn_of (export_of s slot q) (held_at l.adj_out q)) waiting slot Withdrawal after result
-    (λ q some. owed_is s waiting alike slot peer l q marked within configured linked established ∙ withdrawal_some (export_of s slot q) (held_at l.adj_out q) (asked_at l.adj_out q) some)
-    (λ q is. some_withdrawal (export_of s slot q) (held_at l.adj_out q) (asked_at l.adj_out q) (sym (owed_is s waiting alike slot peer l q marked within configured linked established) ∙ is))
-    has above least none
+pub next_withdrawn : (s : RoutesState) (waiting : WaitingState) (alike : AlikeState) (slot : ℕ) (peer : ConfiguredPeer) (l : Linked) (after result : Option Prefix) → peer_at s.conf slot ≡ Some peer → link_at s.links slot ≡ Some l
+    → l.peer.session.state ≡ Established → IsNextOwed s.conf s.links (routing_of s waiting alike) slot Withdrawal after result → IsNext (λ q. withdrawn_of (export_of s slot q) (held_at l.adj_out q)) after result
+next_withdrawn s waiting alike slot peer l after result configured linked established h =
+    next_by (λ q. withdrawn_of (export_of s slot q) (held_at l.adj_out q)) _ after result
+    (λ q some. owed_is s waiting alike slot peer l q configured linked established ∙ withdrawal_some (export_of s slot q) (held_at l.adj_out q) (asked_at l.adj_out q) some)
+    (λ q is. some_withdrawal (export_of s slot q) (held_at l.adj_out q) (asked_at l.adj_out q) (sym (owed_is s waiting alike slot peer l q configured linked established) ∙ is)) h
 
-pub next_announced : (s : RoutesState) (waiting : List (Prefix × Waits)) (alike : AlikeState) (slot : ℕ) (peer : ConfiguredPeer) (l : Linked) (after result : Option Prefix) → AreMarked s.conf s.links (routing_of s waiting alike) → slot < 64
-    → peer_at s.conf slot ≡ Some peer → link_at s.links slot ≡ Some l → l.peer.session.state ≡ Established
-    → IfSome result (λ p. owed_at waiting slot p ≡ Some Announcement) → IfSome result (λ p. IsAbove after p)
-    → IfSome result (λ p. (q : Prefix) → IsAbove after q → owed_at waiting slot q ≡ Some Announcement → is_gt (prefix_cmp p q) ≡ false)
-    → IfNone result ((q : Prefix) → IsAbove after q → owed_at waiting slot q ≡ Some Announcement → ⊥) → IsNext (λ q. announced_of (export_of s slot q) (held_at l.adj_out q) (asked_at l.adj_out q)) after result
-next_announced s waiting alike slot peer l after result marked within configured linked established has above least none =
-    next_by (λ q. announced_of (export_of s slot q) (held_at l.adj_out q) (asked_at l.adj_out q)) waiting slot Announcement after result
-    (λ q some. owed_is s waiting alike slot peer l q marked within configured linked established ∙ announcement_some (export_of s slot q) (held_at l.adj_out q) (asked_at l.adj_out q) some)
-    (λ q is. some_announcement (export_of s slot q) (held_at l.adj_out q) (asked_at l.adj_out q) (sym (owed_is s waiting alike slot peer l q marked within configured linked established) ∙ is))
-    has above least none
-
--- what waits is of a known prefix
-known_owed_of : (slot : ℕ) (owed : Owed) (o : Option Waits) → option_and_then (λ w. owed_by w slot) o ≡ Some owed → is_some o ≡ true
-known_owed_of slot owed None is = absurd (cc)
-known_owed_of slot owed (Some w) is = refl
-
-pub known_owed : (waiting : List (Prefix × Waits)) (slot : ℕ) (p : Prefix) (owed : Owed) → owed_at waiting slot p ≡ Some owed → is_known waiting p ≡ true
-known_owed waiting slot p owed is = known_owed_of slot owed (found waiting p) is
-
--- so is a prefix that is to be withdrawn
-pub withdrawn_known : (s : RoutesState) (waiting : List (Prefix × Waits)) (alike : AlikeState) (slot : ℕ) (peer : ConfiguredPeer) (l : Linked) (p : Prefix) → AreMarked s.conf s.links (routing_of s waiting alike) → slot < 64
-    → peer_at s.conf slot ≡ Some peer → link_at s.links slot ≡ Some l → l.peer.session.state ≡ Established
-    → export_of s slot p ≡ None → IsSome (held_at l.adj_out p) → is_known waiting p ≡ true
-withdrawn_known s waiting alike slot peer l p marked within configured linked established gone held =
-    known_owed waiting slot p Withdrawal
-    (owed_is s waiting alike slot peer l p marked within configured linked established ∙ withdrawal_some (export_of s slot p) (held_at l.adj_out p) (asked_at l.adj_out p) (subst (λ e. IsSome (withdrawn_of e (held_at l.adj_out p))) (sym gone) held))
+pub next_announced : (s : RoutesState) (waiting : WaitingState) (alike : AlikeState) (slot : ℕ) (peer : ConfiguredPeer) (l : Linked) (after result : Option Prefix) → peer_at s.conf slot ≡ Some peer → link_at s.links slot ≡ Some l
+    → l.peer.session.state ≡ Established → IsNextOwed s.conf s.links (routing_of s waiting alike) slot Announcement after result → IsNext (λ q. announced_of (export_of s slot q) (held_at l.adj_out q) (asked_at l.adj_out q)) after result
+next_announced s waiting alike slot peer l after result configured linked established h =
+    next_by (λ q. announced_of (export_of s slot q) (held_at l.adj_out q) (asked_at l.adj_out q)) _ after result
+    (λ q some. owed_is s waiting alike slot peer l q configured linked established ∙ announcement_some (export_of s slot q) (held_at l.adj_out q) (asked_at l.adj_out q) some)
+    (λ q is. some_announcement (export_of s slot q) (held_at l.adj_out q) (asked_at l.adj_out q) (sym (owed_is s waiting alike slot peer l q configured linked established) ∙ is)) h
 
 -- what is exported to whoever the peer is
 pub exported_to : (s : RoutesState) (slot : ℕ) (p : Prefix) (export : Option (List ℕ)) → export_of s slot p ≡ export
@@ -151,42 +119,28 @@ pub some_of : {X : Type 0} (o : Option X) → IsSome o → (x : X) × (o ≡ Som
 some_of None some = absurd (cc)
 some_of (Some x) some = (x, refl)
 
--- a slot that has a peer, whose session is Established
-pub withdrawn_there : (s : RoutesState) (waiting : List (Prefix × Waits)) (alike : AlikeState) (slot : ℕ) (l : Linked) (p : Prefix) → AreMarked s.conf s.links (routing_of s waiting alike) → slot < 64
-    → IsSome (peer_at s.conf slot) → link_at s.links slot ≡ Some l → ((m : Linked) × (link_at s.links slot ≡ Some m) × (m.peer.session.state ≡ Established))
-    → export_of s slot p ≡ None → IsSome (held_at l.adj_out p) → is_known waiting p ≡ true
-withdrawn_there s waiting alike slot l p marked within there linked up gone held =
-    let peer = some_of (peer_at s.conf slot) there in
-    withdrawn_known s waiting alike slot peer.0 l p marked within peer.1 linked (subst (λ (x : Linked). x.peer.session.state ≡ Established) (some_once (sym up.1 ∙ linked)) up.2) gone held
-  where
-    some_once : {X : Type 0} {x y : X} → Some x ≡ Some y → x ≡ y
-    some_once is = cc
-
--- nothing waits for a slot without a configured peer whose session is Established
+-- nothing is owed to a slot without a configured peer whose session is Established
 unserved_of : (s : RoutesState) (slot : ℕ) (q : Prefix) (peer : Option ConfiguredPeer) (linked : Option Linked) → ((x : ConfiguredPeer) (l : Linked) → peer ≡ Some x → linked ≡ Some l → l.peer.session.state ≡ Established → ⊥)
     → mark_of s.conf s.adj_in s.book slot q peer linked ≡ no_mark
 unserved_of s slot q None linked never = refl
 unserved_of s slot q (Some peer) None never = refl
 unserved_of s slot q (Some peer) (Some l) never = rw (not_established l.peer.session.state (λ e. absurd (never peer l refl refl e))) refl
 
-pub none_next : (s : RoutesState) (waiting : List (Prefix × Waits)) (alike : AlikeState) (slot : ℕ) (owed : Owed) (result : Option Prefix) → AreMarked s.conf s.links (routing_of s waiting alike) → slot < 64 → (IsServed s.conf s.links slot → ⊥)
-    → IfSome result (λ p. owed_at waiting slot p ≡ Some owed) → result ≡ None
-none_next s waiting alike slot owed None marked within unserved has = refl
-none_next s waiting alike slot owed (Some p) marked within unserved has =
+pub none_next : (s : RoutesState) (waiting : WaitingState) (alike : AlikeState) (slot : ℕ) (owed : Owed) (after result : Option Prefix) → (IsServed s.conf s.links slot → ⊥)
+    → IsNextOwed s.conf s.links (routing_of s waiting alike) slot owed after result → result ≡ None
+none_next s waiting alike slot owed after None unserved h = refl
+none_next s waiting alike slot owed after (Some p) unserved h =
     let none = unserved_of s slot p (peer_at s.conf slot) (link_at s.links slot) (λ x l configured linked established. unserved (x, l, configured, linked, established)) in
-    absurd (let never = sym has ∙ (marked.marks slot p within).waits ∙ ap (λ (m : Mark). m.owed) none in cc)
+    absurd (let never = sym h.0 ∙ ap (λ (m : Mark). m.owed) none in cc)
 
--- what is due to be announced to a served peer waits, and is listed by its octets
-pub announced_listed : (s : RoutesState) (waiting : List (Prefix × Waits)) (alike : AlikeState) (slot : ℕ) (peer : ConfiguredPeer) (l : Linked) (octets : List ℕ) (q : Prefix) → AreMarked s.conf s.links (routing_of s waiting alike) → slot < 64
-    → peer_at s.conf slot ≡ Some peer → link_at s.links slot ≡ Some l → l.peer.session.state ≡ Established
-    → export_of s slot q ≡ Some octets → owed_for (export_of s slot q) (held_at l.adj_out q) (asked_at l.adj_out q) ≡ Some Announcement
-    → (owed_at waiting slot q ≡ Some Announcement) × IsListed alike slot octets q
-announced_listed s waiting alike slot peer l octets q marked within configured linked established exported announced =
-    let is = mark_is s slot peer l q configured linked established in
-    let mark = marked.marks slot q within in
-    let here = ap (λ (m : Mark). m.owed) is ∙ announced in (
-      mark.waits ∙ here,
-      subst (λ o. IsListed alike slot o q) (ap (λ (m : Mark). m.octets) is ∙ ap octets_of exported) (mark.listed here),
+-- what is due to be announced to a served peer is owed to it with its octets
+pub announced_so : (s : RoutesState) (waiting : WaitingState) (alike : AlikeState) (slot : ℕ) (peer : ConfiguredPeer) (l : Linked) (octets : List ℕ) (q : Prefix) → peer_at s.conf slot ≡ Some peer → link_at s.links slot ≡ Some l
+    → l.peer.session.state ≡ Established → export_of s slot q ≡ Some octets → owed_for (export_of s slot q) (held_at l.adj_out q) (asked_at l.adj_out q) ≡ Some Announcement
+    → IsMarkedSo (mark_at s.conf s.links (routing_of s waiting alike) slot q) octets
+announced_so s waiting alike slot peer l octets q configured linked established exported announced =
+    let is = mark_is s slot peer l q configured linked established in (
+      ap (λ (m : Mark). m.owed) is ∙ announced,
+      ap (λ (m : Mark). m.octets) is ∙ ap octets_of exported,
     )
 
 -- the peer to which something is exported

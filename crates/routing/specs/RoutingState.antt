@@ -1,23 +1,28 @@
 -- What an input of a session makes of its slot and its routes (RFC 4271 sections 3.2 and 8.2.2).
 use Rattle.std.specs.Prelude.{◌≡◌, ℕ, List, []}
 use Rattle.decision.specs.BookContents.{offer_at, BookState}
+use Rattle.loc_rib.specs.RibTables.{RibTables}
 use Rattle.net_prefix.specs.declared.prefix.Prefix.{Prefix}
 use Rattle.rib_in.specs.LatestRoutes.{RouteTable, route_at}
 use Rattle.rib_out.specs.Alike.{AlikeState}
-use Rattle.rib_out.specs.declared.waits.Waits.{Waits}
+use Rattle.rib_out.specs.Waiting.{WaitingState}
 
 -- Adj-RIB-In, the candidates that are kept with Loc-RIB, how often a best route was chosen so far (a count that stays at 2^64 - 1
--- where it has reached it), what waits of each known prefix for each slot, and what is listed of it by the octets that are written
+-- where it has reached it), what waits for each slot, and what is listed of it by the octets that are written
 pub record RoutingState : Type 0 where
   pub adj_in : RouteTable
   pub book : BookState
   pub chosen : ℕ
-  pub waiting : List (Prefix × Waits)
+  pub waiting : WaitingState
   pub alike : AlikeState
 
--- no routes, and nothing waits
-abbrev pub started : AlikeState → RoutingState
-started alike = record { adj_in = []; book = []; chosen = 0; waiting = []; alike = alike }
+-- these routes, with this of what waits and of what is listed
+abbrev pub with_waiting : RibTables → WaitingState → AlikeState → RoutingState
+with_waiting ribs waiting alike = record { adj_in = ribs.adj_in; book = ribs.book; chosen = ribs.chosen; waiting = waiting; alike = alike }
+
+-- no routes, with this of what waits and of what is listed
+abbrev pub started : WaitingState → AlikeState → RoutingState
+started waiting alike = record { adj_in = []; book = []; chosen = 0; waiting = waiting; alike = alike }
 
 -- no route and no candidate is another, and no best route was chosen
 pub record StayWhole (had has : RouteTable) (before after : BookState) (count now : ℕ) : Type 0 where

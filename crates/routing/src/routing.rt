@@ -1,5 +1,5 @@
 //! The tables that routes go through: the routes that came with Loc-RIB, and what waits of each prefix for each peer.
-ghost use Rattle.std.specs.Prelude.{◌≡◌, ◌==◌, ◌&&◌, ◌||◌, ◌<◌, ◌≤◌, ◌+◌, ◌-◌, ◌≢◌, not, ℕ, Bool, List, [], All, IfOk, OnOk, OnErr, IfSome, IfNone, None, Some, true, false, if◌then◌else◌};
+ghost use Rattle.std.specs.Prelude.{IsTrue, ◌↔◌, ◌≡◌, ◌==◌, ◌&&◌, ◌||◌, Option, ◌<◌, ◌≤◌, ◌+◌, ◌-◌, ◌≢◌, ◌⊎◌, not, ℕ, Bool, List, [], All, IfOk, OnOk, OnErr, IfSome, IfNone, None, Some, true, false, if◌then◌else◌};
 ghost use Rattle.std.specs.Option.{IsSome, option_copied};
 ghost use Rattle.std.specs.Ordering.{is_gt};
 ghost use Rattle.bgp_conf.specs.Configuration.{peer_at};
@@ -11,13 +11,14 @@ ghost use Rattle.net_prefix.specs.declared.prefix.Prefix.{Prefix as ThePrefix};
 ghost use Rattle.rib_in.specs.LatestRoutes.{RouteTable, is_route, route_at};
 ghost use Rattle.rib_out.specs.Alike.{IsListed, is_listed};
 ghost use Rattle.rib_out.specs.Slots.{has_slot};
-ghost use Rattle.rib_out.specs.Held.{is_among};
-ghost use Rattle.rib_out.specs.Waiting.{is_known, owed_at, owed_by};
+ghost use Rattle.rib_out.specs.Held.{held_at, is_among};
+ghost use Rattle.rib_out.specs.Waiting.{IsAwaited};
 ghost use Rattle.rib_out.specs.declared.marks.Owed.TheVariants.{Announcement};
 ghost use Rattle.routing.specs.Chosen.{Ends};
 ghost use Rattle.routing.specs.Linked.{Linked};
-ghost use Rattle.routing.specs.Marks.{AreKnown, AreMarked, AreMarkedBut, AreMarkedFor, IsMarked, IsReleased, IsUnmarked, mark_at, mark_of};
-ghost use Rattle.routing.specs.RoutingState.{started};
+ghost use Rattle.rib_out.specs.declared.marks.Owed.{Owed as TheOwed};
+ghost use Rattle.routing.specs.Marks.{AreFew, AreMarked, AreMarkedBut, AreMarkedFor, IsMarked, IsMarkedSo, IsNextMarked, IsNextOf, IsNextOwed, IsUnmarked, lesser, mark_at, mark_of};
+ghost use Rattle.routing.specs.RoutingState.{started, with_waiting};
 ghost use Rattle.routing.specs.Export.{chosen_in};
 ghost use Rattle.routing.specs.Tables.{best_at, link_at};
 
@@ -29,7 +30,7 @@ use bgp_fsm::State;
 use decision::{Book, Candidate, Change};
 use loc_rib::Ribs;
 use net_prefix::Prefix;
-use rib_out::{AlikePrefixes, Owed, Waiting, Waits};
+use rib_out::{AlikePrefixes, Owed, Waiting};
 use std::alloc::{AllocError, Allocator};
 use std::collections::BTreeMap;
 use std::marker::Model;
@@ -38,9 +39,9 @@ use std::rc::Rc;
 /// The slots, by their numbers.
 pub type Links<A> = BTreeMap<u8, Link<A>, A>;
 
-/// The routes that came, the candidates that they make with Loc-RIB, and of each prefix what waits for each
-/// Established peer: a withdrawal, an announcement or nothing. What waits to be announced is listed by the octets that
-/// are written.
+/// The routes that came, the candidates that they make with Loc-RIB, and what waits for each Established peer: of each
+/// prefix a withdrawal, an announcement or nothing. What waits to be announced is listed by the octets that are written.
+/// Where memory was refused to a slot's queue, what waits for it is found in the tables.
 #[derive(Drop)]
 pub struct Routing<A: Allocator + Clone, B: Book<A>> {
     pub(crate) ribs: Ribs<A, B>,
@@ -59,20 +60,12 @@ impl<A: Allocator + Clone, B: Book<A>> Model for Routing<A, B> {
 impl<A: Allocator + Clone, B: Book<A>> Routing<A, B> {
     /// No routes, and nothing waits.
     pub fn new(alloc: A) -> Result<Self, AllocError>
-        ensures state { IfOk result (λ t. t ≡ started t.alike) }
+        ensures state { IfOk result (λ t. t ≡ started t.waiting t.alike) }
+        ensures waiting { IfOk result (λ t. (s : ℕ) (p : ThePrefix) → IsAwaited t.waiting s p None) }
         ensures none { IfOk result (λ t. (s : ℕ) (o : List ℕ) (p : ThePrefix) → is_listed t.alike s o p ≡ false) }
         ensures whole { IfOk result (λ t. (s : ℕ) → s < 64 → has_slot t.alike.whole s ≡ true) }
     {
         let waiting = Waiting::new(alloc.clone()?)?;
-        Self::with_waiting(alloc, waiting)
-    }
-
-    // No routes, with this of what waits.
-    fn with_waiting(alloc: A, waiting: Waiting<A>) -> Result<Self, AllocError>
-        ensures state { IfOk result (λ t. t ≡ record (started t.alike) { waiting = waiting }) }
-        ensures none { IfOk result (λ t. (s : ℕ) (o : List ℕ) (p : ThePrefix) → is_listed t.alike s o p ≡ false) }
-        ensures whole { IfOk result (λ t. (s : ℕ) → s < 64 → has_slot t.alike.whole s ≡ true) }
-    {
         let alike = AlikePrefixes::new(alloc.clone()?);
         let ribs = Ribs::new(alloc)?;
         Ok(Routing {
@@ -108,7 +101,6 @@ impl<A: Allocator + Clone, B: Book<A>> Routing<A, B> {
         ensures rises { self.old.chosen ≤ self.new.chosen }
         ensures marked { AreMarked conf.now links.now.entries self.new }
     {
-        self.waiting.add(prefix)?;
         self.unlist(conf, links, prefix);
         let announced = self.ribs.announce(slot, prefix, attrs, candidate);
         self.mark_peers(conf, links, prefix);
@@ -133,12 +125,7 @@ impl<A: Allocator + Clone, B: Book<A>> Routing<A, B> {
         ensures chosen { self.new.chosen ≡ self.old.chosen }
         ensures marked { AreMarked conf.now links.now.entries self.new }
     {
-        self.waiting.add(prefix)?;
-        let brought = self.ribs.bring(slot, prefix, attrs);
-        if brought.is_err() {
-            self.release(prefix);
-        }
-        brought
+        self.ribs.bring(slot, prefix, attrs)
     }
 
     /// The slot has no route to the prefix any more.
@@ -181,7 +168,6 @@ impl<A: Allocator + Clone, B: Book<A>> Routing<A, B> {
 
     /// Changes candidates of routes to a prefix, and chooses its best one again.
     pub fn change(&mut self, conf: &Conf<A>, links: &Links<A>, prefix: Prefix, changes: &[Change])
-        requires there { (s : ℕ) × IsSome (route_at self.old.adj_in s prefix) }
         requires routed { All (λ c. IsSome (route_at self.old.adj_in c.slot prefix)) changes.now }
         requires named { All (λ c. IfSome c.candidate (λ route. route.slot ≡ c.slot)) changes.now }
         requires apart { AreApart (λ s. changed changes.now s (offer_at self.old.book s prefix)) }
@@ -201,46 +187,13 @@ impl<A: Allocator + Clone, B: Book<A>> Routing<A, B> {
     /// Nothing waits for the slot.
     pub fn clear(&mut self, slot: u8)
         requires { slot < 64 }
-        ensures owed { (s : ℕ) (p : ThePrefix) → owed_at self.new.waiting s p ≡ (if s == slot then None else owed_at self.old.waiting s p) }
-        ensures known { (s : ℕ) (p : ThePrefix) → IsSome (route_at self.old.adj_in s p) → is_known self.new.waiting p ≡ is_known self.old.waiting p }
-        ensures released { ((p : ThePrefix) → IsReleased self.old p) → (p : ThePrefix) → IsReleased self.new p }
-        ensures listed { (s : ℕ) (o : List ℕ) (p : ThePrefix) → s ≢ slot → IsListed self.old.alike s o p → IsListed self.new.alike s o p }
-        ensures rest { self.new ≡ record self.old { waiting = self.new.waiting; alike = self.new.alike } }
-    {
-        self.clear_each(slot, Owed::Withdrawal);
-        self.clear_each(slot, Owed::Announcement);
-        self.begin_anew(slot);
-    }
-
-    // The queue and the list of the slot, for which nothing waits, begin anew: they are whole again.
-    fn begin_anew(&mut self, slot: u8)
-        requires slot { slot < 64 }
-        requires none { (p : ThePrefix) → owed_at self.old.waiting slot p ≡ None }
-        ensures owed { (s : ℕ) (p : ThePrefix) → owed_at self.new.waiting s p ≡ owed_at self.old.waiting s p }
-        ensures known { (p : ThePrefix) → is_known self.new.waiting p ≡ is_known self.old.waiting p }
+        ensures none { (p : ThePrefix) → IsAwaited self.new.waiting slot p None }
+        ensures others { (s : ℕ) (p : ThePrefix) (w : Option TheOwed) → s ≢ slot → IsAwaited self.old.waiting s p w → IsAwaited self.new.waiting s p w }
         ensures listed { (s : ℕ) (o : List ℕ) (p : ThePrefix) → s ≢ slot → IsListed self.old.alike s o p → IsListed self.new.alike s o p }
         ensures rest { self.new ≡ record self.old { waiting = self.new.waiting; alike = self.new.alike } }
     {
         self.waiting.clear(slot);
         self.alike.clear(slot);
-    }
-
-    // Where this waits for the slot of a prefix, nothing does any more.
-    fn clear_each(&mut self, slot: u8, owed: Owed)
-        requires { slot < 64 }
-        ensures none { (p : ThePrefix) → owed_at self.old.waiting slot p ≡ Some owed → owed_at self.new.waiting slot p ≡ None }
-        ensures others { (s : ℕ) (p : ThePrefix) → (s ≡ slot → owed_at self.old.waiting s p ≢ Some owed) → owed_at self.new.waiting s p ≡ owed_at self.old.waiting s p }
-        ensures known { (s : ℕ) (p : ThePrefix) → IsSome (route_at self.old.adj_in s p) → is_known self.new.waiting p ≡ is_known self.old.waiting p }
-        ensures released { ((p : ThePrefix) → IsReleased self.old p) → (p : ThePrefix) → IsReleased self.new p }
-        ensures rest { self.new ≡ record self.old { waiting = self.new.waiting } }
-    {
-        let mut after = None;
-        while let Some(prefix) = self.next(slot, owed, after) {
-            self.told(slot, prefix);
-            // Places rise, so the walk ends.
-            let _place = place(prefix);
-            after = Some(prefix);
-        }
     }
 
     /// The slot's session has entered Established: its peer waits for all that is exported to it.
@@ -257,7 +210,7 @@ impl<A: Allocator + Clone, B: Book<A>> Routing<A, B> {
     /// The peers that are told routes by the policy of this name wait for what they are owed by its rules.
     pub fn mark_exporters(&mut self, conf: &Conf<A>, links: &Links<A>, name: &str)
         requires name { is_policy_name name.now ≡ true }
-        requires there { AreKnown links.now.entries self.old }
+        requires there { AreFew links.now.entries }
         requires marked { AreMarkedFor (λ s. not (exports_by conf.now s (name_of name.now))) conf.now links.now.entries self.old }
         ensures rest { self.new ≡ record self.old { waiting = self.new.waiting; alike = self.new.alike } }
         ensures marked { AreMarked conf.now links.now.entries self.new }
@@ -271,8 +224,7 @@ impl<A: Allocator + Clone, B: Book<A>> Routing<A, B> {
     fn mark_exporter(&mut self, conf: &Conf<A>, links: &Links<A>, slot: u8, name: &str)
         requires name { is_policy_name name.now ≡ true }
         requires slot { slot < 64 }
-        requires there { AreKnown links.now.entries self.old }
-        ensures there { AreKnown links.now.entries self.new }
+        requires there { AreFew links.now.entries }
         ensures rest { self.new ≡ record self.old { waiting = self.new.waiting; alike = self.new.alike } }
         ensures marked { (done : ℕ → Bool) → (exports_by conf.now slot (name_of name.now) ≡ false → done slot ≡ true) → AreMarkedFor done conf.now links.now.entries self.old
             → AreMarkedFor (λ s. s == slot || done s) conf.now links.now.entries self.new }
@@ -285,8 +237,7 @@ impl<A: Allocator + Clone, B: Book<A>> Routing<A, B> {
     /// The slot's peer waits for what it is owed of each prefix with a best route, whatever was marked.
     pub fn mark_slot(&mut self, conf: &Conf<A>, links: &Links<A>, slot: u8)
         requires slot { slot < 64 }
-        requires there { AreKnown links.now.entries self.old }
-        ensures there { AreKnown links.now.entries self.new }
+        requires there { AreFew links.now.entries }
         ensures rest { self.new ≡ record self.old { waiting = self.new.waiting; alike = self.new.alike } }
         ensures marked { (done : ℕ → Bool) → AreMarkedFor done conf.now links.now.entries self.old
             → AreMarkedFor (λ s. s == slot || done s) conf.now links.now.entries self.new }
@@ -302,53 +253,11 @@ impl<A: Allocator + Clone, B: Book<A>> Routing<A, B> {
         }
     }
 
-    /// The slot's peer was told what it was owed of the prefix.
-    pub fn told(&mut self, slot: u8, prefix: Prefix)
-        requires slot { slot < 64 }
-        requires known { is_known self.old.waiting prefix ≡ true }
-        ensures owed { (s : ℕ) (p : ThePrefix) → owed_at self.new.waiting s p ≡ (if s == slot && is_prefix prefix p then None else owed_at self.old.waiting s p) }
-        ensures known { (s : ℕ) (p : ThePrefix) → IsSome (route_at self.old.adj_in s p) → is_known self.new.waiting p ≡ is_known self.old.waiting p }
-        ensures released { ((p : ThePrefix) → IsReleased self.old p) → (p : ThePrefix) → IsReleased self.new p }
-        ensures rest { self.new ≡ record self.old { waiting = self.new.waiting } }
-    {
-        self.waiting.set(slot, prefix, None);
-        self.release(prefix);
-    }
-
     /// The slot's peer was told what it was owed of these prefixes.
     pub fn told_all(&mut self, slot: u8, prefixes: &[Prefix])
         requires slot { slot < 64 }
-        requires known { (p : ThePrefix) → is_among p prefixes.now ≡ true → is_known self.old.waiting p ≡ true }
-        ensures owed { (s : ℕ) (p : ThePrefix) → owed_at self.new.waiting s p ≡ (if s == slot && is_among p prefixes.now then None else owed_at self.old.waiting s p) }
-        ensures known { (s : ℕ) (p : ThePrefix) → IsSome (route_at self.old.adj_in s p) → is_known self.new.waiting p ≡ is_known self.old.waiting p }
-        ensures released { ((p : ThePrefix) → IsReleased self.old p) → (p : ThePrefix) → IsReleased self.new p }
-        ensures rest { self.new ≡ record self.old { waiting = self.new.waiting } }
-    {
-        self.unmark_all(slot, prefixes);
-        self.release_all(prefixes);
-    }
-
-    /// The slot's peer was told routes to these prefixes with these octets of attributes. They stay known for them.
-    pub fn announced_all(&mut self, slot: u8, octets: &[u8], prefixes: &[Prefix])
-        requires slot { slot < 64 }
-        requires known { (p : ThePrefix) → is_among p prefixes.now ≡ true → is_known self.old.waiting p ≡ true }
-        ensures owed { (s : ℕ) (p : ThePrefix) → owed_at self.new.waiting s p ≡ (if s == slot && is_among p prefixes.now then None else owed_at self.old.waiting s p) }
-        ensures known { (p : ThePrefix) → is_known self.new.waiting p ≡ is_known self.old.waiting p }
-        // What still waits to be announced is still listed.
-        ensures listed { (s : ℕ) (o : List ℕ) (p : ThePrefix) → owed_at self.new.waiting s p ≡ Some Announcement → IsListed self.old.alike s o p → IsListed self.new.alike s o p }
-        ensures rest { self.new ≡ record self.old { waiting = self.new.waiting; alike = self.new.alike } }
-    {
-        self.unmark_all(slot, prefixes);
-        self.alike.unlist_all(slot, octets, prefixes);
-        self.renew_list(slot);
-    }
-
-    // Nothing waits for the slot of these prefixes.
-    fn unmark_all(&mut self, slot: u8, prefixes: &[Prefix])
-        requires slot { slot < 64 }
-        requires known { (p : ThePrefix) → is_among p prefixes.now ≡ true → is_known self.old.waiting p ≡ true }
-        ensures owed { (s : ℕ) (p : ThePrefix) → owed_at self.new.waiting s p ≡ (if s == slot && is_among p prefixes.now then None else owed_at self.old.waiting s p) }
-        ensures known { (p : ThePrefix) → is_known self.new.waiting p ≡ is_known self.old.waiting p }
+        ensures told { (p : ThePrefix) → is_among p prefixes.now ≡ true → IsAwaited self.new.waiting slot p None }
+        ensures others { (s : ℕ) (p : ThePrefix) (w : Option TheOwed) → (s == slot && is_among p prefixes.now) ≡ false → IsAwaited self.old.waiting s p w → IsAwaited self.new.waiting s p w }
         ensures rest { self.new ≡ record self.old { waiting = self.new.waiting } }
     {
         for prefix in prefixes {
@@ -356,13 +265,30 @@ impl<A: Allocator + Clone, B: Book<A>> Routing<A, B> {
         }
     }
 
+    /// The slot's peer was told routes to these prefixes with these octets of attributes.
+    pub fn announced_all(&mut self, slot: u8, octets: &[u8], prefixes: &[Prefix])
+        requires slot { slot < 64 }
+        ensures told { (p : ThePrefix) → is_among p prefixes.now ≡ true → IsAwaited self.new.waiting slot p None }
+        ensures others { (s : ℕ) (p : ThePrefix) (w : Option TheOwed) → (s == slot && is_among p prefixes.now) ≡ false → IsAwaited self.old.waiting s p w → IsAwaited self.new.waiting s p w }
+        // What still waits to be announced is still listed.
+        ensures listed { (s : ℕ) (o : List ℕ) (p : ThePrefix) → (s == slot && is_among p prefixes.now) ≡ false → IsAwaited self.new.waiting s p (Some Announcement) → IsListed self.old.alike s o p → IsListed self.new.alike s o p }
+        ensures rest { self.new ≡ record self.old { waiting = self.new.waiting; alike = self.new.alike } }
+    {
+        self.told_all(slot, prefixes);
+        self.alike.unlist_all(slot, octets, prefixes);
+        self.renew_list(slot);
+    }
+
     // Where memory was refused to the slot's list, it begins anew as soon as nothing waits to be announced.
     fn renew_list(&mut self, slot: u8)
         requires { slot < 64 }
-        ensures listed { (s : ℕ) (o : List ℕ) (p : ThePrefix) → owed_at self.old.waiting s p ≡ Some Announcement → IsListed self.old.alike s o p → IsListed self.new.alike s o p }
+        ensures listed { (s : ℕ) (o : List ℕ) (p : ThePrefix) → IsAwaited self.old.waiting s p (Some Announcement) → IsListed self.old.alike s o p → IsListed self.new.alike s o p }
         ensures rest { self.new ≡ record self.old { alike = self.new.alike } }
     {
         if self.alike.is_whole(slot) {
+            return;
+        }
+        if !self.waiting.is_whole(slot) {
             return;
         }
         if self.waiting.next(slot, Owed::Announcement, None).is_none() {
@@ -370,61 +296,117 @@ impl<A: Allocator + Clone, B: Book<A>> Routing<A, B> {
         }
     }
 
-    // Those of these prefixes that are without routes, and of which nothing waits, aren't known any more.
-    fn release_all(&mut self, prefixes: &[Prefix])
-        ensures released { (p : ThePrefix) → is_among p prefixes.now ≡ true → IsReleased self.new p }
-        ensures others { (p : ThePrefix) → is_among p prefixes.now ≡ false → is_known self.new.waiting p ≡ is_known self.old.waiting p }
-        ensures owed { (s : ℕ) (p : ThePrefix) → owed_at self.new.waiting s p ≡ owed_at self.old.waiting s p }
-        ensures known { (s : ℕ) (p : ThePrefix) → IsSome (route_at self.old.adj_in s p) → is_known self.new.waiting p ≡ is_known self.old.waiting p }
-        ensures rest { self.new ≡ record self.old { waiting = self.new.waiting } }
+    /// The least prefix above the given one, or of all, of which this waits for the slot. It is found soon in the slot's
+    /// queue. Where that was lost, all that has a best route or is held is gone through.
+    pub fn next(
+        &self,
+        conf: &Conf<A>,
+        links: &Links<A>,
+        slot: u8,
+        owed: Owed,
+        after: Option<Prefix>,
+    ) -> Option<Prefix>
+        requires slot { slot < 64 }
+        requires marked { AreMarked conf.now links.now.entries self.now }
+        ensures { IsNextOwed conf.now links.now.entries self.now slot owed after result }
     {
-        for prefix in prefixes {
-            self.release(*prefix);
+        if self.waiting.is_whole(slot) {
+            self.waiting.next(slot, owed, after)
+        } else {
+            self.next_of_all(conf, links, slot, owed, after)
         }
     }
 
-    /// What waits of the prefix for the slot.
-    pub fn owed(&self, slot: u8, prefix: Prefix) -> Option<Owed>
-        requires { slot < 64 }
-        ensures { result ≡ owed_at self.now.waiting slot prefix }
+    // The same, where all that has a best route or is held is gone through.
+    fn next_of_all(
+        &self,
+        conf: &Conf<A>,
+        links: &Links<A>,
+        slot: u8,
+        wanted: Owed,
+        after: Option<Prefix>,
+    ) -> Option<Prefix>
+        ensures { IsNextOwed conf.now links.now.entries self.now slot wanted after result }
     {
-        self.waiting.get(slot, prefix)
+        let link = links.get(&slot)?;
+        let mut octets = Octets::new();
+        let mut last = after;
+        while let Some(prefix) = self.possible(link, last) {
+            let chosen = chosen_route(&self.ribs, prefix);
+            let due = owed(conf, chosen.as_ref(), slot, link, prefix, &mut octets);
+            if is_wanted(due, wanted) {
+                return Some(prefix);
+            }
+            // Places rise, so the walk ends.
+            let _place = place(prefix);
+            last = Some(prefix);
+        }
+        None
     }
 
-    /// The least prefix above the given one, or of all, of which this waits for the slot.
-    pub fn next(&self, slot: u8, owed: Owed, after: Option<Prefix>) -> Option<Prefix>
-        requires { slot < 64 }
-        ensures has { IfSome result (λ p. owed_at self.now.waiting slot p ≡ Some owed) }
-        ensures above { IfSome result (λ p. IsAbove after p) }
-        ensures least { IfSome result (λ p. (q : ThePrefix) → IsAbove after q → owed_at self.now.waiting slot q ≡ Some owed → is_gt (prefix_cmp p q) ≡ false) }
-        ensures none { IfNone result ((q : ThePrefix) → IsAbove after q → owed_at self.now.waiting slot q ≢ Some owed) }
+    // The least prefix above the given one, or of all, that has a best route or is held.
+    fn possible(&self, link: &Link<A>, after: Option<Prefix>) -> Option<Prefix>
+        ensures { IsNextOf (λ q. IsSome (best_at (rows_of self.now.book) q) ⊎ IsSome (held_at link.now.adj_out q)) after result }
     {
-        self.waiting.next(slot, owed, after)
+        lesser(
+            self.ribs.prefix_after(after),
+            link.adj_out.prefix_after(after),
+        )
     }
 
     /// The least prefix above the given one, or of all, of which something waits for the slot.
-    pub fn next_owed(&self, slot: u8, after: Option<Prefix>) -> Option<Prefix>
-        requires { slot < 64 }
-        ensures has { IfSome result (λ p. IsSome (owed_at self.now.waiting slot p)) }
-        ensures above { IfSome result (λ p. IsAbove after p) }
-        ensures least { IfSome result (λ p. (q : ThePrefix) → IsAbove after q → IsSome (owed_at self.now.waiting slot q) → is_gt (prefix_cmp p q) ≡ false) }
-        ensures none { IfNone result ((q : ThePrefix) → IsAbove after q → owed_at self.now.waiting slot q ≡ None) }
+    pub fn next_owed(
+        &self,
+        conf: &Conf<A>,
+        links: &Links<A>,
+        slot: u8,
+        after: Option<Prefix>,
+    ) -> Option<Prefix>
+        requires slot { slot < 64 }
+        requires marked { AreMarked conf.now links.now.entries self.now }
+        ensures { IsNextMarked conf.now links.now.entries self.now slot after result }
     {
-        self.waiting.next_owed(slot, after)
+        lesser(
+            self.next(conf, links, slot, Owed::Withdrawal, after),
+            self.next(conf, links, slot, Owed::Announcement, after),
+        )
+    }
+
+    /// Where the slot's queue was lost and nothing is owed to its peer any more, it is whole again.
+    pub fn renew_queue(&mut self, conf: &Conf<A>, links: &Links<A>, slot: u8)
+        requires slot { slot < 64 }
+        requires marked { AreMarked conf.now links.now.entries self.old }
+        ensures marked { AreMarked conf.now links.now.entries self.new }
+        ensures rest { self.new ≡ record self.old { waiting = self.new.waiting } }
+    {
+        if self.waiting.is_whole(slot) {
+            return;
+        }
+        if self.next_owed(conf, links, slot, None).is_none() {
+            self.waiting.clear(slot);
+        }
     }
 
     /// A prefix above the given one, below which none waits to be announced to the slot with these octets of attributes:
     /// the next that is listed by them, or the next that waits at all, where the slot's list isn't whole.
-    pub fn possible_after(&self, slot: u8, octets: &[u8], after: Prefix) -> Option<Prefix>
-        requires { slot < 64 }
+    pub fn possible_after(
+        &self,
+        conf: &Conf<A>,
+        links: &Links<A>,
+        slot: u8,
+        octets: &[u8],
+        after: Prefix,
+    ) -> Option<Prefix>
+        requires slot { slot < 64 }
+        requires marked { AreMarked conf.now links.now.entries self.now }
         ensures above { IfSome result (λ p. IsAbove (Some after) p) }
-        ensures least { IfSome result (λ p. (q : ThePrefix) → IsAbove (Some after) q → owed_at self.now.waiting slot q ≡ Some Announcement → IsListed self.now.alike slot octets.now q → is_gt (prefix_cmp p q) ≡ false) }
-        ensures none { IfNone result ((q : ThePrefix) → IsAbove (Some after) q → owed_at self.now.waiting slot q ≡ Some Announcement → IsListed self.now.alike slot octets.now q → ⊥) }
+        ensures least { IfSome result (λ p. (q : ThePrefix) → IsAbove (Some after) q → IsMarkedSo (mark_at conf.now links.now.entries self.now slot q) octets.now → is_gt (prefix_cmp p q) ≡ false) }
+        ensures none { IfNone result ((q : ThePrefix) → IsAbove (Some after) q → IsMarkedSo (mark_at conf.now links.now.entries self.now slot q) octets.now → ⊥) }
     {
         if self.alike.is_whole(slot) {
             self.alike.next(slot, octets, after)
         } else {
-            self.waiting.next(slot, Owed::Announcement, Some(after))
+            self.next(conf, links, slot, Owed::Announcement, Some(after))
         }
     }
 
@@ -448,20 +430,15 @@ impl<A: Allocator + Clone, B: Book<A>> Routing<A, B> {
         ensures listed { (s : ℕ) (o : List ℕ) (p : ThePrefix) → is_prefix prefix p ≡ false → IsListed self.old.alike s o p → IsListed self.new.alike s o p }
         ensures rest { self.new ≡ record self.old { alike = self.new.alike } }
     {
-        let announced = self.waiting.announced(prefix);
-        if announced.is_empty() {
-            return;
-        }
-        let mut octets = Octets::new();
         for slot in 0..slots_end(links) {
-            if announced.has(slot) {
-                self.unlist_for(conf, slot, prefix, &mut octets);
+            if self.waiting.is_queued(slot, Owed::Announcement, prefix) {
+                self.unlist_for(conf, slot, prefix);
             }
         }
     }
 
     // The same of one slot.
-    fn unlist_for(&mut self, conf: &Conf<A>, slot: u8, prefix: Prefix, octets: &mut Octets)
+    fn unlist_for(&mut self, conf: &Conf<A>, slot: u8, prefix: Prefix)
         requires { slot < 64 }
         ensures listed { (s : ℕ) (o : List ℕ) (p : ThePrefix) → is_prefix prefix p ≡ false → IsListed self.old.alike s o p → IsListed self.new.alike s o p }
         ensures rest { self.new ≡ record self.old { alike = self.new.alike } }
@@ -469,24 +446,26 @@ impl<A: Allocator + Clone, B: Book<A>> Routing<A, B> {
         let Some(peer) = export_peer(conf, slot) else {
             return;
         };
-        if export(conf, &self.ribs, &peer, prefix, octets) {
+        let mut octets = Octets::new();
+        if export(conf, &self.ribs, &peer, prefix, &mut octets) {
             self.alike.unlist(slot, octets.as_slice(), prefix);
         }
     }
 
-    // What the prefix's new routes and best one make wait for each peer. Without routes, and where nothing waits, it
-    // isn't known any more.
+    // What the prefix's new routes and best one make wait for each peer.
     fn mark_peers(&mut self, conf: &Conf<A>, links: &Links<A>, prefix: Prefix)
-        requires known { is_known self.old.waiting prefix ≡ true }
-        requires marked { AreMarkedBut prefix conf.now links.now.entries self.old }
+        requires { AreMarkedBut prefix conf.now links.now.entries self.old }
         ensures marked { AreMarked conf.now links.now.entries self.new }
         ensures rest { self.new ≡ record self.old { waiting = self.new.waiting; alike = self.new.alike } }
     {
-        let waits = list_peers(&self.ribs, &mut self.alike, conf, links, prefix);
-        self.waiting.put(prefix, waits);
-        if waits.is_idle() {
-            self.release(prefix);
-        }
+        mark_each(
+            &self.ribs,
+            &mut self.waiting,
+            &mut self.alike,
+            conf,
+            links,
+            prefix,
+        );
     }
 
     // What of the prefix waits for the slot's peer, where there is one. What waits to be announced is listed.
@@ -498,12 +477,10 @@ impl<A: Allocator + Clone, B: Book<A>> Routing<A, B> {
         prefix: Prefix,
         octets: &mut Octets,
     )
-        requires slot { slot < 64 }
-        requires known { is_known self.old.waiting prefix ≡ true }
-        ensures here { (link_at links.now.entries slot ≡ None → owed_at self.old.waiting slot prefix ≡ None) → IsMarked (mark_at conf.now links.now.entries self.old slot prefix) self.new slot prefix }
-        ensures others { (s : ℕ) (p : ThePrefix) → (s == slot && is_prefix prefix p) ≡ false → owed_at self.new.waiting s p ≡ owed_at self.old.waiting s p }
+        requires { slot < 64 }
+        ensures here { IsMarked (mark_at conf.now links.now.entries self.old slot prefix) self.new slot prefix }
+        ensures others { (s : ℕ) (p : ThePrefix) (w : Option TheOwed) → (s == slot && is_prefix prefix p) ≡ false → IsAwaited self.old.waiting s p w → IsAwaited self.new.waiting s p w }
         ensures listed { (s : ℕ) (o : List ℕ) (p : ThePrefix) → IsListed self.old.alike s o p → IsListed self.new.alike s o p }
-        ensures known { (p : ThePrefix) → is_known self.new.waiting p ≡ is_known self.old.waiting p }
         ensures rest { self.new ≡ record self.old { waiting = self.new.waiting; alike = self.new.alike } }
     {
         let chosen = chosen_route(&self.ribs, prefix);
@@ -517,19 +494,6 @@ impl<A: Allocator + Clone, B: Book<A>> Routing<A, B> {
             octets,
         );
         self.waiting.set(slot, prefix, owed);
-    }
-
-    // A prefix without routes of which nothing waits isn't known any more.
-    fn release(&mut self, prefix: Prefix)
-        ensures released { IsReleased self.new prefix }
-        ensures others { (p : ThePrefix) → is_prefix prefix p ≡ false → is_known self.new.waiting p ≡ is_known self.old.waiting p }
-        ensures owed { (s : ℕ) (p : ThePrefix) → owed_at self.new.waiting s p ≡ owed_at self.old.waiting s p }
-        ensures known { (s : ℕ) (p : ThePrefix) → IsSome (route_at self.old.adj_in s p) → is_known self.new.waiting p ≡ is_known self.old.waiting p }
-        ensures rest { self.new ≡ record self.old { waiting = self.new.waiting } }
-    {
-        if !self.ribs.routes().is_routed(prefix) {
-            self.waiting.release(prefix);
-        }
     }
 }
 
@@ -546,21 +510,19 @@ pub fn slots_end<A: Allocator + Clone>(links: &Links<A>) -> u8
     }
 }
 
-// What each peer is owed of the prefix. What is to be announced is listed.
-fn list_peers<A: Allocator + Clone, B: Book<A>>(
+// What the prefix's routes and its best one make wait for each peer.
+fn mark_each<A: Allocator + Clone, B: Book<A>>(
     ribs: &Ribs<A, B>,
+    waiting: &mut Waiting<A>,
     alike: &mut AlikePrefixes<A>,
     conf: &Conf<A>,
     links: &Links<A>,
     prefix: Prefix,
-) -> Waits
-    requires { (s : ℕ) (l : Linked) → link_at links.now.entries s ≡ Some l → s < 64 }
-    ensures owed { (s : ℕ) → s < 64 → owed_by result s ≡ (mark_of conf.now ribs.now.adj_in ribs.now.book s prefix (peer_at conf.now s) (link_at links.now.entries s)).owed }
-    ensures here { (s : ℕ) → s < 64 → owed_by result s ≡ Some Announcement → IsListed alike.new s (mark_of conf.now ribs.now.adj_in ribs.now.book s prefix (peer_at conf.now s) (link_at links.now.entries s)).octets prefix }
-    ensures listed { (s : ℕ) (o : List ℕ) (p : ThePrefix) → IsListed alike.old s o p → IsListed alike.new s o p }
+)
+    requires { AreMarkedBut prefix conf.now links.now.entries (with_waiting ribs.now waiting.old alike.old) }
+    ensures { AreMarked conf.now links.now.entries (with_waiting ribs.now waiting.new alike.new) }
 {
     let mut octets = Octets::new();
-    let mut waits = Waits::for_none();
     let chosen = chosen_route(ribs, prefix);
     for slot in 0..slots_end(links) {
         let owed = list(
@@ -572,9 +534,8 @@ fn list_peers<A: Allocator + Clone, B: Book<A>>(
             chosen.as_ref(),
             &mut octets,
         );
-        waits.set(slot, owed);
+        waiting.set(slot, prefix, owed);
     }
-    waits
 }
 
 // What of the prefix, with this best route, is owed to the slot's peer, where there is one. What is to be announced is listed.
@@ -635,4 +596,27 @@ fn owed<A: Allocator + Clone>(
         return None;
     }
     Some(Owed::Announcement)
+}
+
+// Whether this is owed.
+fn is_wanted(owed: Option<Owed>, wanted: Owed) -> bool
+    ensures { IsTrue result ↔ (owed ≡ Some wanted) }
+{
+    match owed {
+        Some(found) => found == wanted,
+        None => false,
+    }
+}
+
+// The lesser of two prefixes, or the one that there is.
+fn lesser(one: Option<Prefix>, other: Option<Prefix>) -> Option<Prefix>
+    ensures { result ≡ lesser one other }
+{
+    let Some(first) = one else {
+        return other;
+    };
+    let Some(second) = other else {
+        return one;
+    };
+    if second < first { other } else { one }
 }

@@ -95,6 +95,33 @@ impl<A: Allocator + Clone, B: Book<A>> Speaker<A, B> {
         ensures served { OnOk result (IsServedAt self.new slot) }
         ensures short { OnErr result (IsShortAt self.new slot) }
     {
+        self.renew_queue(slot);
+        self.serve_in_order(slot, octets, draft)
+    }
+
+    // What waits for the slot is kept in order again, if memory was refused to that and nothing is owed to its peer.
+    fn renew_queue(&mut self, slot: u8)
+        requires { slot < 64 }
+        ensures { self.new ≡ self.old }
+    {
+        self.routes.renew_queue(slot);
+    }
+
+    // The same where what waits is kept in order if it can be.
+    fn serve_in_order(
+        &mut self,
+        slot: u8,
+        octets: &mut Octets,
+        draft: &mut Draft,
+    ) -> Result<(), AllocError>
+        requires slot { slot < 64 }
+        requires below { AreServedBelow self.old slot }
+        ensures only { IsOfSlot slot self.old self.new }
+        ensures stand { Stand self.old self.new }
+        ensures queues { QueuesOn self.old self.new }
+        ensures served { OnOk result (IsServedAt self.new slot) }
+        ensures short { OnErr result (IsShortAt self.new slot) }
+    {
         let Some(peer) = self.routes.export_peer(slot) else {
             return Ok(());
         };

@@ -1,16 +1,16 @@
 use Rattle.std.proofs.Common.{◌≡◌, ◌≢◌, ◌==◌, ℕ, Bool, List, Option, Some, None, cond, false, refl, sym, ap, ◌∙◌, subst, inl, inr}
-use Rattle.std.proofs.lemmas.Bool.{cases_eq, eq-eqb, ne_eqb}
+use Rattle.std.proofs.lemmas.Bool.{cases_eq}
 use Rattle.std.specs.Option.{IsSome}
 use Rattle.bgp_conf.specs.Configuration.{Configuration, peer_at}
 use Rattle.bgp_conf.specs.declared.conf.ConfiguredPeer.{ConfiguredPeer}
 use Rattle.bgp_fsm.specs.StateTests.{is_established}
 use Rattle.bgp_fsm.specs.declared.session.Effects.{Effects}
 use Rattle.net_prefix.specs.declared.prefix.Prefix.{Prefix}
-use Rattle.rib_in.specs.LatestRoutes.{route_at}
 use Rattle.rib_out.specs.Alike.{IsListed}
-use Rattle.rib_out.specs.Waiting.{is_known, owed_at}
+use Rattle.rib_out.specs.Waiting.{IsAwaited}
+use Rattle.rib_out.specs.declared.marks.Owed.{Owed}
 use Rattle.routing.specs.Linked.{Linked}
-use Rattle.routing.specs.Marks.{AreMarked, IsFollowed, IsMarked, IsReleased, IsUnmarked, Mark, mark_at, mark_of, no_mark}
+use Rattle.routing.specs.Marks.{AreMarked, IsFollowed, IsMarked, IsUnmarked, Mark, mark_at, mark_of, no_mark}
 use Rattle.routing.specs.RoutingState.{RoutingState}
 use Rattle.routing.specs.Tables.{link_at}
 use Rattle.routing.proofs.Counting.{ends_all}
@@ -22,7 +22,6 @@ use Rattle.routes.proofs.sessions.follow.Goals as goal
 same_marks : (conf : Configuration) (links : List (ℕ × Linked)) (slot : ℕ) (effects : Effects) (asks : Bool) (t : RoutingState) → IsFollowed conf links slot effects asks t → effects.left ≡ false → effects.entered ≡ false → asks ≡ false → AreMarked conf links t
 same_marks conf links slot effects asks t h left entered unasked = record {
   there = h.there;
-  released = h.released;
   marks = λ s p low. elim (cases_eq s slot) [
     | inl is ↦ subst (λ n. IsMarked (mark_at conf links t n p) t n p) (sym is) (h.same left entered p (inl unasked))
     | inr other ↦ h.others s p low other
@@ -31,19 +30,13 @@ same_marks conf links slot effects asks t h left entered unasked = record {
 
 -- behind what ended or began for a slot, nothing waits for it
 unmarked : (conf : Configuration) (links : List (ℕ × Linked)) (slot : ℕ) (effects : Effects) (asks : Bool) (t u : RoutingState) → IsFollowed conf links slot effects asks t → KeepsTables t u
-    → ((s : ℕ) (p : Prefix) → owed_at u.waiting s p ≡ cond (s == slot) None (owed_at t.waiting s p)) → ((s : ℕ) (p : Prefix) → IsSome (route_at t.adj_in s p) → is_known u.waiting p ≡ is_known t.waiting p)
-    → (((p : Prefix) → IsReleased t p) → (p : Prefix) → IsReleased u p) → ((s : ℕ) (o : List ℕ) (p : Prefix) → s ≢ slot → IsListed t.alike s o p → IsListed u.alike s o p) → IsUnmarked conf links slot u
-unmarked conf links slot effects asks t u h rest owed known released listed = record {
-  there = record {
-    within = h.there.within;
-    known = λ s p some.
-        let was = subst (λ (x : RoutingState). IsSome (route_at x.adj_in s p)) rest some in
-        known s p was ∙ h.there.known s p was;
-  };
-  released = released h.released;
+    → ((p : Prefix) → IsAwaited u.waiting slot p None) → ((s : ℕ) (p : Prefix) (w : Option Owed) → s ≢ slot → IsAwaited t.waiting s p w → IsAwaited u.waiting s p w)
+    → ((s : ℕ) (o : List ℕ) (p : Prefix) → s ≢ slot → IsListed t.alike s o p → IsListed u.alike s o p) → IsUnmarked conf links slot u
+unmarked conf links slot effects asks t u h rest none others listed = record {
+  there = h.there;
   others = λ s p few other.
-      marked_still _ _ t u s p (h.others s p few other) (owed s p ∙ rw (ne_eqb s slot other) refl) (λ o waits. listed s o p other) (sym (ap (λ (x : RoutingState). mark_at conf links x s p) rest));
-  none = λ p. owed slot p ∙ rw (eq-eqb slot slot refl) refl;
+      marked_still _ _ t u s p (h.others s p few other) (others s p (mark_at conf links t s p).owed other) (λ o waits. listed s o p other) (sym (ap (λ (x : RoutingState). mark_at conf links x s p) rest));
+  none = none;
 }
 
 ended_of : (conf : Configuration) (t : RoutingState) (slot : ℕ) (p : Prefix) (peer : Option ConfiguredPeer) (linked : Option Linked) → ((l : Linked) → linked ≡ Some l → is_established l.peer.session.state ≡ false)
@@ -57,7 +50,6 @@ marked_ended : (conf : Configuration) (links : List (ℕ × Linked)) (slot : ℕ
     → AreMarked conf links t
 marked_ended conf links slot t down h = record {
   there = h.there;
-  released = h.released;
   marks = λ s p within. elim (cases_eq s slot) [
     | inl same ↦
         subst (λ x. IsMarked (mark_at conf links t x p) t x p) (sym same)
@@ -82,9 +74,9 @@ pub drop_slot-requires : goal.drop_slot-requires
 drop_slot-requires g c =
     let cleared = c.clear.ensures in
     marked_ended c.args.conf.now c.args.links.now.entries c.args.slot c.clear.new.self (c.requires.left c.if-effects.true)
-    (unmarked c.args.conf.now c.args.links.now.entries c.args.slot c.args.effects.now c.args.asks c.args.routing.now c.clear.new.self c.requires cleared.rest cleared.owed cleared.known cleared.released cleared.listed)
+    (unmarked c.args.conf.now c.args.links.now.entries c.args.slot c.args.effects.now c.args.asks c.args.routing.now c.clear.new.self c.requires cleared.rest cleared.none cleared.others cleared.listed)
 
 pub enter-requires-clause-unmarked : goal.enter-requires-clause-unmarked
 enter-requires-clause-unmarked g c =
     let cleared = c.clear-then-effects-2.ensures in
-    unmarked c.args.conf.now c.args.links.now.entries c.args.slot c.args.effects.now c.args.asks c.args.routing.now c.clear-then-effects-2.new.self c.requires cleared.rest cleared.owed cleared.known cleared.released cleared.listed
+    unmarked c.args.conf.now c.args.links.now.entries c.args.slot c.args.effects.now c.args.asks c.args.routing.now c.clear-then-effects-2.new.self c.requires cleared.rest cleared.none cleared.others cleared.listed

@@ -1,4 +1,4 @@
-use Rattle.routing.proofs.Due.{behind_listed, ranked_above}
+use Rattle.routing.proofs.Due.{behind_so, ranked_above}
 use Rattle.routing.proofs.Owing.{state_of}
 use Rattle.routes.proofs.routes.Routes.possible_after.Goals as goal
 
@@ -10,5 +10,5 @@ returns-clause-behind g c = λ l linked established.
     let linked_here = rw (← c.self.view_is) at linked in
     let state = state_of c.self.inside.conf c.self.inside.payloads c.self.inside.links.entries c.self.inside.routing in
     rw (← c.self.view_is)
-    (behind_listed state c.self.inside.routing.waiting c.self.inside.routing.alike c.args.slot l c.args.octets.now.items c.args.last c.self.invariant.1 c.requires linked_here established c.possible_after.result
+    (behind_so state c.self.inside.routing.waiting c.self.inside.routing.alike c.args.slot l c.args.octets.now.items c.args.last linked_here established c.possible_after.result
     (rw (c.as_slice.ensures.value) at c.possible_after.ensures.least) (rw (c.as_slice.ensures.value) at c.possible_after.ensures.none))

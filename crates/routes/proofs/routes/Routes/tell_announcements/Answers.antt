@@ -7,7 +7,6 @@ use Rattle.routing.specs.RoutingState.{RoutingState}
 use Rattle.routes.proofs.SlotMarks.{IsNow, marked_put, marked_told}
 use Rattle.routing.proofs.Owing.{exported_to, state_of}
 use Rattle.routing.proofs.Results.{OnErr-is}
-use Rattle.routes.proofs.ToldRoutes.{announced_released, exported_routed}
 use Rattle.routes.proofs.routes.Routes.tell_announcements.Goals as goal
 
 pub invariant_of-self-in_err-announce : goal.invariant_of-self-in_err-announce
@@ -42,11 +41,12 @@ invariant_of-self-2 g c =
     let state = state_of c.self.inside.conf c.self.inside.payloads c.self.inside.links.entries c.self.inside.routing in
     let named = c.name_announcements.new.named.items in
     let told = c.announced_all.ensures in
-    let owed = rw (c.as_slice-3.ensures.value) at told.owed in
+    let silent = rw (c.as_slice-3.ensures.value) at told.told in
+    let others = rw (c.as_slice-3.ensures.value) at told.others in
+    let listed = rw (c.as_slice-3.ensures.value) at told.listed in
     let heard = rw (c.as_slice.ensures.value) at c.in_ok-announce.ensures.told in
     let put : IsNow c.args.slot c.announce.new.link c.self.inside.links.entries (c.get_mut.follows.lender c.announce.new.link).entries = search rules in (
       subst (λ b. IsSound c.self.inside.conf (offer_at b)) (sym (ap (λ (t : RoutingState). t.book) told.rest)) c.self.invariant.0,
       marked_told c.self.inside.conf c.self.inside.routing c.announced_all.new.self c.args.slot named (Some c.args.octets.now.items) c.in-Some.link.now c.announce.new.link c.self.inside.links.entries _ c.self.invariant.1
-          (sym c.in-Some.ensures.value) heard put (λ peer p configured among. exported_to state c.args.slot p (Some c.args.octets.now.items) (each p among) peer configured) told.rest owed told.listed (λ s p there. told.known p)
-          (announced_released c.args.slot named c.self.inside.routing c.announced_all.new.self told.rest (λ p among. exported_routed state c.args.slot p c.args.octets.now.items (each p among)) owed told.known),
+          (sym c.in-Some.ensures.value) heard put (λ peer p configured among. exported_to state c.args.slot p (Some c.args.octets.now.items) (each p among) peer configured) told.rest silent others listed,
     )

@@ -1,5 +1,4 @@
 use Rattle.std.proofs.Common.{refl, sym, ap, subst, ◌∙◌}
-use Rattle.std.specs.Option.{IsSome}
 use Rattle.decision.specs.BookContents.{AreApart, changed, offer_at}
 use Rattle.rib_in.specs.LatestRoutes.{route_at}
 use Rattle.routing.specs.Marks.{AreMarkedBut}
@@ -7,8 +6,8 @@ use Rattle.routing.specs.RoutingState.{RoutingState}
 use Rattle.routing.proofs.Marking.{but_changed, but_marked, but_unlisted}
 use Rattle.routing.proofs.routing.Routing.change.Goals as goal
 
-pub mark_peers-requires-clause-marked : goal.mark_peers-requires-clause-marked
-mark_peers-requires-clause-marked g c =
+pub mark_peers-requires : goal.mark_peers-requires
+mark_peers-requires g c =
     let conf = c.args.conf.now in
     let links = c.args.links.now.entries in
     let old : RoutingState = record { adj_in = c.self.inside.ribs.adj_in; book = c.self.inside.ribs.book; chosen = c.self.inside.ribs.chosen; waiting = c.self.inside.waiting; alike = c.self.inside.alike } in
@@ -16,8 +15,7 @@ mark_peers-requires-clause-marked g c =
     let but =
     subst (λ (t : RoutingState). AreMarkedBut c.args.prefix conf links t) (sym (c.self.view_is ∙ c.unlist.ensures.rest))
     (but_unlisted conf links c.args.prefix c.args.self.now c.unlist.new.self.alike (but_marked conf links c.args.prefix c.args.self.now c.requires.marked) c.unlist.ensures.listed) in
-    but_changed conf links c.args.prefix old new but (λ s p. refl) refl c.change.ensures.others (λ s p other. ap (λ t. route_at t s p) c.change.ensures.routes)
-    (λ s p some. but.there.known s p (subst (λ t. IsSome (route_at t s p)) c.change.ensures.routes some)) (λ p other. refl)
+    but_changed conf links c.args.prefix old new but refl refl c.change.ensures.others (λ s p other. ap (λ t. route_at t s p) c.change.ensures.routes)
 
 pub change-requires-clause-apart : goal.change-requires-clause-apart
 change-requires-clause-apart g c =

@@ -1,10 +1,9 @@
-use Rattle.std.proofs.Common.{◌≡◌, ℕ, false, None, subst}
+use Rattle.std.proofs.Common.{◌≡◌, false, None, subst}
 use Rattle.std.specs.Option.{IsSome}
 use Rattle.std.specs.Ordering.{is_gt}
 use Rattle.decision.specs.BookContents.{rows_of}
 use Rattle.net_prefix.specs.PrefixOrder.{IsAbove, prefix_cmp}
 use Rattle.net_prefix.specs.declared.prefix.Prefix.{Prefix}
-use Rattle.rib_in.specs.LatestRoutes.{route_at}
 use Rattle.routing.specs.RoutingState.{RoutingState}
 use Rattle.routing.specs.Tables.{best_at}
 use Rattle.routing.proofs.Marking.{SlotUpTo-all, SlotUpTo-more, SlotUpTo-none}
@@ -13,22 +12,15 @@ use Rattle.routing.proofs.routing.Routing.mark_slot.Goals as goal
 pub loop-prefix-init : goal.loop-prefix-init
 loop-prefix-init g c =
     let first : RoutingState = record { adj_in = c.self.inside.ribs.adj_in; book = c.self.inside.ribs.book; chosen = c.self.inside.ribs.chosen; waiting = c.self.inside.waiting; alike = c.self.inside.alike } in
-    let there = rw (← c.self.view_is) at c.requires.there in
-    rw (← c.self.view_is) (SlotUpTo-none c.args.conf.now c.args.links.now.entries c.args.slot first c.clear.new.self c.requires.slot there c.clear.ensures.kept)
-
-pub mark-requires-clause-known : goal.mark-requires-clause-known
-mark-requires-clause-known g c =
-    let routed = subst (λ (t : RoutingState). (s : ℕ) × IsSome (route_at t.adj_in s c.in-Some.prefix)) c.self-in-loop-prefix.view_is c.in-Some.ensures.routed in
-    c.loop-prefix.invariant.there.known routed.0 c.in-Some.prefix routed.1
+    rw (← c.self.view_is) (SlotUpTo-none c.args.conf.now c.args.links.now.entries c.args.slot first c.clear.new.self c.requires.slot c.requires.there c.clear.ensures.kept)
 
 pub loop-prefix-preserved : goal.loop-prefix-preserved
 loop-prefix-preserved g c =
     let below = rw c.place-place.ensures.place at c.place-place.ensures.below in
     let least =
     subst (λ (t : RoutingState). (q : Prefix) → IsAbove c.loop-prefix.after q → IsSome (best_at (rows_of t.book) q) → is_gt (prefix_cmp c.in-Some.prefix q) ≡ false) c.self-in-loop-prefix.view_is c.in-Some.ensures.least in
-    let routed = subst (λ (t : RoutingState). (s : ℕ) × IsSome (route_at t.adj_in s c.in-Some.prefix)) c.self-in-loop-prefix.view_is c.in-Some.ensures.routed in
-    SlotUpTo-more _ _ c.args.slot _ _ _ _ c.in-Some.prefix c.requires.slot c.loop-prefix.invariant c.in-Some.ensures.above least below routed
-    (record { here = c.mark.ensures.here; others = c.mark.ensures.others; listed = c.mark.ensures.listed; known = c.mark.ensures.known; rest = c.mark.ensures.rest })
+    SlotUpTo-more _ _ c.args.slot _ _ _ _ c.in-Some.prefix c.requires.slot c.loop-prefix.invariant c.in-Some.ensures.above least below
+    (record { here = c.mark.ensures.here; others = c.mark.ensures.others; listed = c.mark.ensures.listed; rest = c.mark.ensures.rest })
 
 pub returns-clause-marked : goal.returns-clause-marked
 returns-clause-marked g c =

@@ -1,19 +1,30 @@
-use Rattle.std.proofs.Common.{sym, ◌∙◌}
-use Rattle.routing.proofs.Due.{least_listed, least_waiting, none_listed, none_waiting}
+use Rattle.std.proofs.Common.{Some, sym, ◌∙◌}
+use Rattle.routing.specs.RoutingState.{with_waiting}
+use Rattle.routing.proofs.MarkedNexts.{least_listed, least_waiting, next_above, none_listed, none_waiting}
 use Rattle.routing.proofs.routing.Routing.possible_after.Goals as goal
-
-pub returns-else-is_whole-clause-least : goal.returns-else-is_whole-clause-least
-returns-else-is_whole-clause-least g c =
-    rw (← c.self.view_is) (least_listed c.self.inside.waiting c.self.inside.alike c.args.slot c.args.octets.now c.args.after c.next-else-is_whole.result c.next-else-is_whole.ensures.least)
-
-pub returns-else-is_whole-clause-none : goal.returns-else-is_whole-clause-none
-returns-else-is_whole-clause-none g c =
-    rw (← c.self.view_is) (none_listed c.self.inside.waiting c.self.inside.alike c.args.slot c.args.octets.now c.args.after c.next-else-is_whole.result c.next-else-is_whole.ensures.none)
 
 pub returns-then-is_whole-clause-least : goal.returns-then-is_whole-clause-least
 returns-then-is_whole-clause-least g c =
-    rw (← c.self.view_is) (least_waiting c.self.inside.waiting c.self.inside.alike c.args.slot c.args.octets.now c.args.after c.next.result (c.next.ensures.least (sym c.is_whole.ensures ∙ c.if-is_whole.true)))
+    let inside = c.self.inside in
+    let marked = rw (← c.self.view_is) at c.requires.marked in
+    rw (← c.self.view_is)
+    (least_listed c.args.conf.now c.args.links.now.entries (with_waiting inside.ribs inside.waiting inside.alike) c.args.slot c.args.octets.now c.args.after marked c.requires.slot c.next.result (c.next.ensures.least (sym c.is_whole.ensures ∙ c.if-is_whole.true)))
 
 pub returns-then-is_whole-clause-none : goal.returns-then-is_whole-clause-none
 returns-then-is_whole-clause-none g c =
-    rw (← c.self.view_is) (none_waiting c.self.inside.waiting c.self.inside.alike c.args.slot c.args.octets.now c.args.after c.next.result (c.next.ensures.none (sym c.is_whole.ensures ∙ c.if-is_whole.true)))
+    let inside = c.self.inside in
+    let marked = rw (← c.self.view_is) at c.requires.marked in
+    rw (← c.self.view_is)
+    (none_listed c.args.conf.now c.args.links.now.entries (with_waiting inside.ribs inside.waiting inside.alike) c.args.slot c.args.octets.now c.args.after marked c.requires.slot c.next.result (c.next.ensures.none (sym c.is_whole.ensures ∙ c.if-is_whole.true)))
+
+pub returns-else-is_whole-clause-above : goal.returns-else-is_whole-clause-above
+returns-else-is_whole-clause-above g c =
+    next_above c.args.conf.now c.args.links.now.entries c.args.self.now c.args.slot c.args.octets.now (Some c.args.after) c.next-else-is_whole.result c.next-else-is_whole.ensures
+
+pub returns-else-is_whole-clause-least : goal.returns-else-is_whole-clause-least
+returns-else-is_whole-clause-least g c =
+    least_waiting c.args.conf.now c.args.links.now.entries c.args.self.now c.args.slot c.args.octets.now (Some c.args.after) c.next-else-is_whole.result c.next-else-is_whole.ensures
+
+pub returns-else-is_whole-clause-none : goal.returns-else-is_whole-clause-none
+returns-else-is_whole-clause-none g c =
+    none_waiting c.args.conf.now c.args.links.now.entries c.args.self.now c.args.slot c.args.octets.now (Some c.args.after) c.next-else-is_whole.result c.next-else-is_whole.ensures
