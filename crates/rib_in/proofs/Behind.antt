@@ -1,5 +1,5 @@
 -- The entries behind a prefix, and the routes of a slot among them.
-use Rattle.std.proofs.Common.{◌≡◌, ℕ, Bool, true, false, cond, List, [], ◌∷◌, Option, None, Some, IsSome, filter, refl, sym, ap, subst, ◌∙◌}
+use Rattle.std.proofs.Common.{◌≡◌, ℕ, Bool, true, false, cond, List, [], ◌∷◌, Option, None, Some, IfNone, IfSome, IsSome, filter, refl, sym, ap, subst, ◌∙◌}
 use Rattle.std.proofs.lemmas.List.Kept.{IsStrictlySortedBy-filter}
 use Rattle.std.proofs.lemmas.Map.Entries.{lookup-filter-keys}
 use Rattle.std.specs.BTreeMap.{is_at}
@@ -50,9 +50,13 @@ module _ {V : Type 0} where
   kept_value true o v is = is
   kept_value false o v is = absurd (cc)
 
-  found_some : (o : Option V) (v : V) → o ≡ Some v → IsSome o
+  pub found_some : (o : Option V) (v : V) → o ≡ Some v → IsSome o
   found_some None v is = absurd (cc)
   found_some (Some w) v is = refl
+
+  value_of : (o : Option V) → IsSome o → (v : V) × (o ≡ Some v)
+  value_of None some = absurd (cc)
+  value_of (Some v) some = (v, refl)
 
   some_once : {v w : V} → Some v ≡ Some w → v ≡ w
   some_once is = cc
@@ -105,3 +109,26 @@ module _ (slot : ℕ) (after : Option Prefix) (table : RouteTable) (rising : IsR
 
   pub rising_slot : IsStrictlySortedBy prefix_cmp (keys_of (all_after after (routes_of slot table)))
   rising_slot = rising_after after (routes_of slot table) (rising_routes slot table rising)
+
+  -- the least prefix above one, or of all, to which the slot has a route, or none
+  pub record IsNextPrefix (r : Option Prefix) : Type 0 where
+    pub has : IfSome r (λ p. IsSome (route_at table slot p))
+    pub above : IfSome r (λ p. IsAbove after p)
+    pub least : IfSome r (λ p. (q : Prefix) → IsAbove after q → IsSome (route_at table slot q) → is_gt (prefix_cmp p q) ≡ false)
+    pub none : IfNone r ((q : Prefix) → IsAbove after q → route_at table slot q ≡ None)
+
+  pub next_prefix : (r : Option Prefix) → r ≡ first_key (all_after after (routes_of slot table)) → IsNextPrefix r
+  next_prefix None is = record {
+    has = tt;
+    above = tt;
+    least = tt;
+    none = λ q higher. sym (found_routes slot q table rising) ∙ none_after after (routes_of slot table) is q higher;
+  }
+  next_prefix (Some p) is =
+      let l = least_after after (routes_of slot table) (rising_routes slot table rising) p is in
+      record {
+        has = found_some (route_at table slot p) l.value (sym (found_routes slot p table rising) ∙ l.there);
+        above = l.above;
+        least = λ q higher some. let v = value_of (route_at table slot q) some in l.least q v.0 higher (found_routes slot q table rising ∙ v.1) refl;
+        none = tt;
+      }

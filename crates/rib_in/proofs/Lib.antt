@@ -2,7 +2,6 @@ pub mod Behind
 pub mod KeptRoutes
 pub mod Ordered
 pub mod RouteLists
-pub mod SlotPrefixes
 pub mod SlotWalks
 pub mod Tables
 pub mod Walks

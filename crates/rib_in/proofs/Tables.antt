@@ -75,6 +75,21 @@ one_out old new slot prefix routes there is =
     put_at_prefix old new slot prefix (Some (others_of slot routes)) None is (λ s.
     lookup-others nat_cmp_total s slot routes ∙ ap (λ o. cond (is_at (nat_cmp slot) s) None (route_among o s)) (sym there))
 
+either : (b : Bool) (o : Option PathAttributes) → o ≡ cond b o o
+either true o = refl
+either false o = refl
+
+none_case : (old : RouteTable) (slot s : ℕ) (prefix p : Prefix) (r : Ordering) → prefix_cmp prefix p ≡ r → found old prefix ≡ None → route_at old s p ≡ cond (is_eq (ordering_then r (nat_cmp slot s))) None (route_at old s p)
+none_case old slot s prefix p Less is none = refl
+none_case old slot s prefix p Equal is none =
+    let nowhere : route_at old s p ≡ None = ap (λ q. route_at old s q) (sym (prefix_cmp_exact prefix p is)) ∙ ap (λ o. route_among o s) none in
+    rw nowhere (either (is_at (nat_cmp slot) s) None)
+none_case old slot s prefix p Greater is none = refl
+
+-- where there are no routes to the prefix, none goes
+pub none_out : (old : RouteTable) (slot : ℕ) (prefix : Prefix) → found old prefix ≡ None → (s : ℕ) (p : Prefix) → route_at old s p ≡ cond (is_route slot prefix s p) None (route_at old s p)
+none_out old slot prefix none s p = none_case old slot s prefix p (prefix_cmp prefix p) refl none
+
 -- ---- each prefix has a route
 with_case : (prefix : Prefix) (routes : RouteList) (e : Prefix × RouteList) (es : RouteTable) (r : Ordering) → 0 < length routes → HasNoEmptyList (e ∷ es) → HasNoEmptyList (with_entry es prefix routes)
     → HasNoEmptyList (match_ordering r ((prefix, routes) ∷ e ∷ es) ((e.0, routes) ∷ es) (e ∷ with_entry es prefix routes))
@@ -93,6 +108,14 @@ without_case e es more false h rest = (h.0, rest)
 pub no_empty_without : (test : Prefix → Bool) (es : RouteTable) → HasNoEmptyList es → HasNoEmptyList (remove_entry test es)
 no_empty_without test [] h = tt
 no_empty_without test (e ∷ es) h = without_case e es (remove_entry test es) (test e.0) h (no_empty_without test es h.1)
+
+set_case : (w : RouteList) (e : Prefix × RouteList) (es more : RouteTable) (b : Bool) → 0 < length w → HasNoEmptyList (e ∷ es) → HasNoEmptyList more → HasNoEmptyList (cond b ((e.0, w) ∷ es) (e ∷ more))
+set_case w e es more true some h rest = (some, h.1)
+set_case w e es more false some h rest = (h.0, rest)
+
+pub no_empty_set : (test : Prefix → Bool) (w : RouteList) (es : RouteTable) → 0 < length w → HasNoEmptyList es → HasNoEmptyList (set_value test es w)
+no_empty_set test w [] some h = tt
+no_empty_set test w (e ∷ es) some h = set_case w e es (set_value test es w) (test e.0) some h (no_empty_set test w es some h.1)
 
 found_case : (e : Prefix × RouteList) (routes : RouteList) (more : Option RouteList) (b : Bool) → 0 < length e.1 → (more ≡ Some routes → 0 < length routes) → cond b (Some e.1) more ≡ Some routes → 0 < length routes
 found_case e routes more true some h is = let same : e.1 ≡ routes = cc in subst (λ l. 0 < length l) same some

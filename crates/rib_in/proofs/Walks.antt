@@ -1,5 +1,8 @@
 -- The routes of a slot, in the order of prefixes.
-use Rattle.std.proofs.Common.{◌≡◌, ℕ, Bool, true, cond, List, [], ◌∷◌, Option, None, Some, refl, sym, ap, ◌∙◌}
+use Rattle.std.proofs.Common.{◌≡◌, ℕ, Bool, true, false, not, cond, ◌&&◌, List, [], ◌∷◌, Option, None, Some, refl, sym, ap, ◌∙◌}
+use Rattle.std.proofs.lemmas.List.Elements.{filter_agree}
+use Rattle.std.specs.BTreeMap.Range.{entries_between, range_contains}
+use Rattle.std.specs.declared.ops.Bound.TheVariants.{Excluded, Unbounded}
 use Rattle.std.specs.List.{AllByRecursion, filter}
 use Rattle.std.specs.List.Sorted.{IsStrictlySortedBy}
 use Rattle.std.specs.Map.{keys_of, lookup}
@@ -86,3 +89,34 @@ unfolding IsStrictlySortedBy
 found_routes slot p [] h = refl
 found_routes slot p (e ∷ table) h =
     found_listed slot p e table (routes_of slot table) (route_in e.1 slot) (prefix_cmp p e.0) refl refl h.0 (found_routes slot p table h.1)
+
+kept_listed : (slot : ℕ) (e : Prefix × RouteList) (es : RouteTable) (b : Bool) → routes_of slot (cond b (e ∷ es) es) ≡ cond b (listed e.0 (route_in e.1 slot) (routes_of slot es)) (routes_of slot es)
+kept_listed slot e es true = refl
+kept_listed slot e es false = refl
+
+listed_kept : (test : Prefix → Bool) (p : Prefix) (o : Option PathAttributes) (rest : List (Prefix × PathAttributes)) (b : Bool) → test p ≡ b
+    → cond b (listed p o (filter (λ e. test e.0) rest)) (filter (λ e. test e.0) rest) ≡ filter (λ e. test e.0) (listed p o rest)
+listed_kept test p None rest true is = refl
+listed_kept test p None rest false is = refl
+listed_kept test p (Some a) rest b is = ap (λ c. cond c ((p, a) ∷ filter (λ e. test e.0) rest) (filter (λ e. test e.0) rest)) (sym is)
+
+-- the slot's routes to some prefixes are those among its routes
+pub routes_kept : (slot : ℕ) (test : Prefix → Bool) (table : RouteTable) → routes_of slot (filter (λ e. test e.0) table) ≡ filter (λ e. test e.0) (routes_of slot table)
+routes_kept slot test [] = refl
+routes_kept slot test (e ∷ table) =
+    kept_listed slot e (filter (λ x. test x.0) table) (test e.0)
+    ∙ ap (λ l. cond (test e.0) (listed e.0 (route_in e.1 slot) l) l) (routes_kept slot test table)
+    ∙ listed_kept test e.0 (route_in e.1 slot) (routes_of slot table) (test e.0) refl
+
+only : (b : Bool) → (b && not false) ≡ b
+only true = refl
+only false = refl
+
+-- the slot's routes in the part of a table above a prefix, and in all of it
+pub routes_above : (slot : ℕ) (after : Prefix) (table : RouteTable) → routes_of slot (entries_between prefix_cmp (Excluded after) Unbounded table) ≡ all_after (Some after) (routes_of slot table)
+routes_above slot after table =
+    routes_kept slot (range_contains prefix_cmp (Excluded after) Unbounded) table
+    ∙ filter_agree (λ e. range_contains prefix_cmp (Excluded after) Unbounded e.0) (λ e. is_lt (prefix_cmp after e.0)) (λ e. only (is_lt (prefix_cmp after e.0))) (routes_of slot table)
+
+pub routes_all : (slot : ℕ) (table : RouteTable) → routes_of slot (entries_between prefix_cmp Unbounded Unbounded table) ≡ all_after None (routes_of slot table)
+routes_all slot table = ap (routes_of slot) (sym (whole table))

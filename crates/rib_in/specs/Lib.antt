@@ -2,4 +2,3 @@ pub mod LatestRoutes
 pub mod PrefixRoutes
 pub mod RibNumbers
 pub mod RoutesFall
-pub mod SlotPrefixes

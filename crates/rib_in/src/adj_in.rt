@@ -8,20 +8,18 @@ ghost use Rattle.std.specs.declared.cmp.Ordering.TheVariants.{Less};
 ghost use Rattle.net_prefix.specs.PrefixOrder.{prefix_cmp, IsAbove};
 ghost use Rattle.net_prefix.specs.declared.prefix.Prefix.{Prefix};
 ghost use Rattle.prefix_trie.specs.TrieMap.{IsRising};
-ghost use Rattle.prefix_trie.specs.TrieWalks.{IsNext, all_after};
+ghost use Rattle.prefix_trie.specs.TrieWalks.{IsNext, all_after, first_key};
 ghost use Rattle.rib_in.specs.PrefixRoutes.{IsAnnounced};
-ghost use Rattle.rib_in.specs.SlotPrefixes.{AreKept, Sets};
-ghost use Rattle.rib_in.specs.LatestRoutes.{HasRoute, is_prefix, is_route, route_at, route_in, routes_of};
+ghost use Rattle.rib_in.specs.LatestRoutes.{HasNoEmptyList, HasRoute, is_prefix, is_route, route_at, route_in, routes_of};
 
 use crate::fault::RibFault;
 use crate::prefix_routes::PrefixRoutes;
-use crate::slot_prefixes::{SlotRoute, prefix_behind};
 use crate::slot_routes::SlotRoutes;
 use bgp_attr::Attrs;
 use net_prefix::Prefix;
 use std::alloc::{AllocError, Allocator, Global};
 use std::collections::btree_map::Entry;
-use std::collections::{BTreeMap, BTreeSet};
+use std::collections::{BTreeMap, btree_map};
 use std::marker::Model;
 use std::ops::Bound;
 use std::rc::Rc;
@@ -30,21 +28,18 @@ use std::rc::Rc;
 #[derive(Drop)]
 pub struct AdjIn<A: Allocator = Global> {
     routes: BTreeMap<Prefix, PrefixRoutes<A>, A>,
-    // To which prefixes each slot has a route.
-    slot_routes: BTreeSet<SlotRoute, A>,
     // Of the routes to one prefix but the first.
     alloc: A,
 }
 
 impl<A: Allocator> Model for AdjIn<A> {
-    ghost use Rattle.rib_in.specs.LatestRoutes.{RouteTable};
-    ghost use Rattle.rib_in.specs.SlotPrefixes.{AreKept};
+    ghost use Rattle.rib_in.specs.LatestRoutes.{HasNoEmptyList, RouteTable};
 
     ghost Value = { RouteTable };
 
     ghost view = { λ t. t.routes.entries };
 
-    ghost invariant = { λ t. AreKept t.routes.entries t.slot_routes };
+    ghost invariant = { λ t. HasNoEmptyList t.routes.entries };
 }
 
 impl<A: Allocator + Clone> AdjIn<A> {
@@ -53,12 +48,7 @@ impl<A: Allocator + Clone> AdjIn<A> {
         ensures { IfOk result (λ t. t ≡ []) }
     {
         let routes = BTreeMap::new(alloc.clone()?);
-        let slot_routes = BTreeSet::new(alloc.clone()?);
-        Ok(AdjIn {
-            routes,
-            slot_routes,
-            alloc,
-        })
+        Ok(AdjIn { routes, alloc })
     }
 
     /// Whether some slot has a route to the prefix.
@@ -80,24 +70,14 @@ impl<A: Allocator + Clone> AdjIn<A> {
         // Replacing a route takes no memory.
         ensures absent { OnErr result (route_at self.old slot prefix ≡ None) }
     {
-        announce_in(
-            &mut self.routes,
-            &mut self.slot_routes,
-            &self.alloc,
-            SlotRoute { slot, prefix },
-            attrs,
-        )
+        announce_in(&mut self.routes, &self.alloc, slot, prefix, attrs)
     }
 
     /// The slot withdrew its route to the prefix.
     pub fn withdraw(&mut self, slot: u8, prefix: Prefix)
         ensures { (s : ℕ) (p : Prefix) → route_at self.new s p ≡ (if is_route slot prefix s p then None else route_at self.old s p) }
     {
-        withdraw_in(
-            &mut self.routes,
-            &mut self.slot_routes,
-            SlotRoute { slot, prefix },
-        );
+        withdraw_in(&mut self.routes, slot, prefix);
     }
 
     /// The slot's session has ended: none of its routes is kept.
@@ -162,15 +142,25 @@ impl<A: Allocator> AdjIn<A> {
         }
     }
 
-    /// The least prefix above the given one, or of all, to which the slot has a route. It is found without looking at
-    /// the routes of the other slots.
+    /// The least prefix above the given one, or of all, to which the slot has a route. It is found by going along the
+    /// prefixes, as far as the next one of the slot.
     pub fn slot_prefix_after(&self, slot: u8, after: Option<Prefix>) -> Option<Prefix>
         ensures has { IfSome result (λ p. IsSome (route_at self.now slot p)) }
         ensures above { IfSome result (λ p. IsAbove after p) }
         ensures least { IfSome result (λ p. (q : Prefix) → IsAbove after q → IsSome (route_at self.now slot q) → is_gt (prefix_cmp p q) ≡ false) }
         ensures none { IfNone result ((q : Prefix) → IsAbove after q → route_at self.now slot q ≡ None) }
     {
-        prefix_behind(&self.slot_routes, slot, after)
+        match after {
+            Some(prefix) => first_of_slot(
+                self.routes
+                    .range((Bound::Excluded(prefix), Bound::Unbounded)),
+                slot,
+            ),
+            None => {
+                let all: (Bound<Prefix>, Bound<Prefix>) = (Bound::Unbounded, Bound::Unbounded);
+                first_of_slot(self.routes.range(all), slot)
+            }
+        }
     }
 
     /// The routes of a slot, in rising order of prefix.
@@ -213,30 +203,39 @@ impl<A: Allocator> AdjIn<A> {
 // The routes to each prefix, as a map by prefix.
 type Routes<A> = BTreeMap<Prefix, PrefixRoutes<A>, A>;
 
-// Puts the slot's route among those to its prefix, and its place among those of the slot.
+// The first prefix of a range to which the slot has a route.
+fn first_of_slot<A: Allocator>(
+    range: btree_map::Range<'_, Prefix, PrefixRoutes<A>>,
+    slot: u8,
+) -> Option<Prefix>
+    ensures { result ≡ first_key (routes_of slot range.entry) }
+{
+    for (prefix, routes) in range {
+        if routes.get(slot).is_some() {
+            return Some(*prefix);
+        }
+    }
+    None
+}
+
+// Puts the slot's route among those to its prefix.
 fn announce_in<A: Allocator + Clone>(
     routes: &mut Routes<A>,
-    slot_routes: &mut BTreeSet<SlotRoute, A>,
     alloc: &A,
-    place: SlotRoute,
+    slot: u8,
+    prefix: Prefix,
     attrs: Rc<Attrs<A>, A>,
 ) -> Result<(), RibFault>
-    requires { AreKept routes.old.entries slot_routes.old }
-    ensures kept { AreKept routes.new.entries slot_routes.new }
-    ensures ok { OnOk result ((s : ℕ) (p : Prefix) → route_at routes.new.entries s p ≡ (if is_route place.slot place.prefix s p then Some attrs.value else route_at routes.old.entries s p)) }
+    requires { HasNoEmptyList routes.old.entries }
+    ensures kept { HasNoEmptyList routes.new.entries }
+    ensures ok { OnOk result ((s : ℕ) (p : Prefix) → route_at routes.new.entries s p ≡ (if is_route slot prefix s p then Some attrs.value else route_at routes.old.entries s p)) }
     ensures err { OnErr result (routes.new.entries ≡ routes.old.entries) }
-    ensures absent { OnErr result (route_at routes.old.entries place.slot place.prefix ≡ None) }
+    ensures absent { OnErr result (route_at routes.old.entries slot prefix ≡ None) }
 {
-    match routes.entry(place.prefix) {
-        Ok(Entry::Occupied(entry)) => {
-            announce_more(entry.into_mut(), slot_routes, alloc, place, attrs)
-        }
+    match routes.entry(prefix) {
+        Ok(Entry::Occupied(entry)) => announce_more(entry.into_mut(), alloc, slot, attrs),
         Ok(Entry::Vacant(entry)) => {
-            entry.insert(PrefixRoutes::one(place.slot, attrs));
-            if slot_routes.insert(place).is_err() {
-                routes.remove(&place.prefix);
-                return Err(RibFault::NoMemory);
-            }
+            entry.insert(PrefixRoutes::one(slot, attrs));
             Ok(())
         }
         Err(_) => Err(RibFault::NoMemory),
@@ -246,24 +245,18 @@ fn announce_in<A: Allocator + Clone>(
 // Where there are routes to the prefix already.
 fn announce_more<A: Allocator + Clone>(
     routes: &mut PrefixRoutes<A>,
-    slot_routes: &mut BTreeSet<SlotRoute, A>,
     alloc: &A,
-    place: SlotRoute,
+    slot: u8,
     attrs: Rc<Attrs<A>, A>,
 ) -> Result<(), RibFault>
-    ensures ok { OnOk result (IsAnnounced place.slot attrs.value routes.old routes.new) }
-    ensures told { OnOk result (MatchBool (is_some (route_in routes.old place.slot)) (slot_routes.new.keys ≡ slot_routes.old.keys) (Sets slot_routes.old slot_routes.new place.slot place.prefix true)) }
+    ensures ok { OnOk result (IsAnnounced slot attrs.value routes.old routes.new) }
     ensures err { OnErr result (routes.new ≡ routes.old) }
-    ensures same { OnErr result (slot_routes.new.keys ≡ slot_routes.old.keys) }
-    ensures absent { OnErr result (is_some (route_in routes.old place.slot) ≡ false) }
+    ensures absent { OnErr result (is_some (route_in routes.old slot) ≡ false) }
 {
-    let Err(attrs) = routes.replace(place.slot, attrs) else {
+    let Err(attrs) = routes.replace(slot, attrs) else {
         return Ok(());
     };
-    let route = boxed(alloc, PrefixRoutes::one(place.slot, attrs))?;
-    if slot_routes.insert(place).is_err() {
-        return Err(RibFault::NoMemory);
-    }
+    let route = boxed(alloc, PrefixRoutes::one(slot, attrs))?;
     routes.put(route);
     Ok(())
 }
@@ -284,29 +277,19 @@ fn boxed<A: Allocator + Clone>(
     }
 }
 
-// Takes the slot's route out of those to its prefix, and its place out of those of the slot.
-fn withdraw_in<A: Allocator + Clone>(
-    routes: &mut Routes<A>,
-    slot_routes: &mut BTreeSet<SlotRoute, A>,
-    place: SlotRoute,
-)
-    requires { AreKept routes.old.entries slot_routes.old }
-    ensures kept { AreKept routes.new.entries slot_routes.new }
-    ensures gone { (s : ℕ) (p : Prefix) → route_at routes.new.entries s p ≡ (if is_route place.slot place.prefix s p then None else route_at routes.old.entries s p) }
+// Takes the slot's route out of those to its prefix.
+fn withdraw_in<A: Allocator>(routes: &mut Routes<A>, slot: u8, prefix: Prefix)
+    requires { HasNoEmptyList routes.old.entries }
+    ensures kept { HasNoEmptyList routes.new.entries }
+    ensures gone { (s : ℕ) (p : Prefix) → route_at routes.new.entries s p ≡ (if is_route slot prefix s p then None else route_at routes.old.entries s p) }
 {
-    // To ask for an entry that is not there takes memory.
-    if !slot_routes.remove(&place) {
-        return;
-    }
-    let Ok(entry) = routes.entry(place.prefix) else {
+    // `entry` would take memory where the prefix isn't there.
+    let Some(kept) = routes.get_mut(&prefix) else {
         return;
     };
-    let Entry::Occupied(entry) = entry else {
-        return;
-    };
-    if entry.get().is_only(place.slot) {
-        entry.remove();
+    if kept.is_only(slot) {
+        routes.remove(&prefix);
     } else {
-        entry.into_mut().withdraw(place.slot);
+        kept.withdraw(slot);
     }
 }

@@ -10,8 +10,8 @@ use net_prefix::Prefix;
 use std::alloc::{Allocator, Global};
 use std::marker::Model;
 
-/// The routes of one slot, in rising order of prefix. It is seen as those still to come. Each is found without looking
-/// at the routes of the other slots.
+/// The routes of one slot, in rising order of prefix. It is seen as those still to come. Each is found by going along
+/// the prefixes from the one before it.
 #[derive(Drop)]
 pub struct SlotRoutes<'a, A: Allocator = Global> {
     table: &'a AdjIn<A>,

@@ -1,18 +1,20 @@
-use Rattle.rib_in.specs.LatestRoutes.{route_at}
-use Rattle.rib_in.proofs.SlotPrefixes.{if_none, if_some, told_has, told_none, told_there}
+use Rattle.std.proofs.Common.{◌≡◌, None, Some, ap, rules, ◌∙◌}
+use Rattle.prefix_trie.specs.TrieWalks.{all_after, first_key}
+use Rattle.rib_in.specs.LatestRoutes.{routes_of}
+use Rattle.rib_in.proofs.Behind.{next_prefix}
+use Rattle.rib_in.proofs.Walks.{routes_above, routes_all}
 use Rattle.rib_in.proofs.adj_in.AdjIn.slot_prefix_after.Goals as goal
 
-pub returns-clause-has : goal.returns-clause-has
-returns-clause-has g c =
-    rw (← c.self.view_is)
-    (if_some c.prefix_behind.result (λ p there. told_has (route_at c.self.inside.routes.entries c.args.slot p) _ (c.self.invariant.told c.args.slot p) there) c.prefix_behind.ensures.has)
+pub returns-in-Some : goal.returns-in-Some
+returns-in-Some g c =
+    let is : c.first_of_slot.result ≡ first_key (all_after (Some c.in-Some.prefix) (routes_of c.args.slot c.self.inside.routes.entries)) =
+    c.first_of_slot.ensures ∙ ap (λ es. first_key (routes_of c.args.slot es)) (c.range.ensures.between (search rules)) ∙ ap first_key (routes_above c.args.slot c.in-Some.prefix c.self.inside.routes.entries) in
+    let n = next_prefix c.args.slot (Some c.in-Some.prefix) c.self.inside.routes.entries c.range.ensures.ordered c.first_of_slot.result is in
+    rw (c.in-Some.is, ← c.self.view_is) (record { has = n.has; above = n.above; least = n.least; none = n.none })
 
-pub returns-clause-least : goal.returns-clause-least
-returns-clause-least g c =
-    rw (← c.self.view_is)
-    (if_some c.prefix_behind.result (λ p least q above has. least q above (told_there (route_at c.self.inside.routes.entries c.args.slot q) _ (c.self.invariant.told c.args.slot q) has)) c.prefix_behind.ensures.least)
-
-pub returns-clause-none : goal.returns-clause-none
-returns-clause-none g c =
-    rw (← c.self.view_is)
-    (if_none c.prefix_behind.result (λ none q above. told_none (route_at c.self.inside.routes.entries c.args.slot q) _ (c.self.invariant.told c.args.slot q) (none q above)) c.prefix_behind.ensures.none)
+pub returns-in-None : goal.returns-in-None
+returns-in-None g c =
+    let is : c.first_of_slot-in-None.result ≡ first_key (all_after None (routes_of c.args.slot c.self.inside.routes.entries)) =
+    c.first_of_slot-in-None.ensures ∙ ap (λ es. first_key (routes_of c.args.slot es)) (c.range-in-None.ensures.between (search rules)) ∙ ap first_key (routes_all c.args.slot c.self.inside.routes.entries) in
+    let n = next_prefix c.args.slot None c.self.inside.routes.entries c.range-in-None.ensures.ordered c.first_of_slot-in-None.result is in
+    rw (c.in-None.is, ← c.self.view_is) (record { has = n.has; above = n.above; least = n.least; none = n.none })
