@@ -2,12 +2,11 @@
 ghost use Rattle.std.specs.Prelude.{◌≡◌, IfOk};
 
 use std::alloc::{AllocError, Allocator, Global};
-use std::collections::BTreeMap;
 use std::marker::Model;
 use std::rc::Rc;
 
 /// How many lists of octets are kept for others to share.
-pub const RECENT_LISTS: u32 = 16_384;
+pub const RECENT_LISTS: usize = 16_384;
 
 /// The octets of a route's attributes.
 #[derive(Drop)]
@@ -69,12 +68,14 @@ impl<A: Allocator> SharedOctets<A> {
     }
 }
 
-/// Octets that were announced lately, so that the next who is told the same shares them.
+/// Octets that were announced lately, so that the next who is told the same shares them. Where there is no memory to keep
+/// them, nobody shares them.
 #[derive(Drop)]
 pub struct RecentOctets<A: Allocator = Global> {
     alloc: A,
-    // By their number's remainder, each beside its number: of two lists with one remainder the later one is kept.
-    lists: BTreeMap<u32, (u32, SharedOctets<A>), A>,
+    // By their number's remainder, each beside its number: of two lists with one remainder the later one is kept. There is
+    // none before the first is announced.
+    lists: Vec<Option<(u32, SharedOctets<A>)>, A>,
 }
 
 impl<A: Allocator> Model for RecentOctets<A> {
@@ -88,7 +89,7 @@ impl<A: Allocator> Model for RecentOctets<A> {
 impl<A: Allocator + Clone> RecentOctets<A> {
     /// Nothing was announced yet.
     pub fn new(alloc: A) -> Result<Self, AllocError> {
-        let lists = BTreeMap::new(alloc.clone()?);
+        let lists = Vec::new(alloc.clone()?);
         Ok(RecentOctets { alloc, lists })
     }
 
@@ -97,18 +98,46 @@ impl<A: Allocator + Clone> RecentOctets<A> {
         ensures { IfOk result (λ shared. shared ≡ octets.now) }
     {
         let number = number_of(octets);
-        let place = number % RECENT_LISTS;
+        let place = place_of(number);
         // Octets are compared only where their numbers are the same, which is soon seen.
-        if let Some((other, recent)) = self.lists.get(&place)
+        if let Some(Some((other, recent))) = self.lists.get(place)
             && *other == number
             && recent.as_slice() == octets
         {
             return recent.share();
         }
         let shared = SharedOctets::of(self.alloc.clone()?, octets)?;
-        self.lists.insert(place, (number, shared.share()?))?;
+        let _is_kept = self.keep(number, &shared);
         Ok(shared)
     }
+
+    // Keeps these octets for others to share, where there is memory for the lists.
+    fn keep(&mut self, number: u32, octets: &SharedOctets<A>) -> Result<(), AllocError> {
+        if self.lists.is_empty() {
+            make_room(&mut self.lists)?;
+        }
+        let octets = octets.share()?;
+        if let Some(list) = self.lists.get_mut(place_of(number)) {
+            *list = Some((number, octets));
+        }
+        Ok(())
+    }
+}
+
+// Makes room for all lists, or for none.
+fn make_room<A: Allocator>(
+    lists: &mut Vec<Option<(u32, SharedOctets<A>)>, A>,
+) -> Result<(), AllocError> {
+    lists.reserve_exact(RECENT_LISTS)?;
+    for _ in 0..RECENT_LISTS {
+        lists.push(None)?;
+    }
+    Ok(())
+}
+
+// The place of the octets of a number.
+fn place_of(number: u32) -> usize {
+    number as usize % RECENT_LISTS
 }
 
 // A number made of the octets (the hash FNV-1a).

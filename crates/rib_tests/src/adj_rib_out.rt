@@ -235,16 +235,8 @@ fn all_prefixes_of_an_update_are_told_or_none(rt: HostRuntime) {
     );
 }
 
-// Whether the first octets find memory. Then octets that were announced lately take none, and others do.
-fn shares<A: Allocator + Clone>(rt: &impl Abort, recent: &mut RecentOctets<A>) -> bool {
-    let is_first = recent.shared(&[7; 40]).is_ok();
-    if is_first {
-        assert!(rt; recent.shared(&[7; 40]).is_ok() && recent.shared(&[8; 40]).is_err());
-    }
-    is_first
-}
-
-// Asks a heap that refuses the nth request. Answers whether the first octets found memory.
+// Asks a heap that refuses the nth request. Answers whether the first octets and their list found memory. Then octets that
+// were announced lately take none, and others do.
 fn is_shared(rt: &impl Abort, alloc: Global, nth: u64) -> bool
     requires { 1 ≤ nth }
 {
@@ -252,14 +244,15 @@ fn is_shared(rt: &impl Abort, alloc: Global, nth: u64) -> bool
     let Ok(mut recent) = RecentOctets::new(&heap) else {
         panic!(rt; "no memory");
     };
-    let found = shares(rt, &mut recent);
-    if found {
-        assert!(rt; heap.has_refused());
+    if recent.shared(&[7; 40]).is_err() || heap.has_refused() {
+        return false;
     }
-    found
+    assert!(rt; recent.shared(&[7; 40]).is_ok() && recent.shared(&[8; 40]).is_err());
+    assert!(rt; heap.has_refused());
+    true
 }
 
-// The first n for which the first octets find memory is one more than they ask for: the next request is refused.
+// The first n for which all that the first octets ask for is there is one more than that: the next request is refused.
 #[test]
 fn peers_share_what_was_announced_lately(rt: HostRuntime) {
     let mut found = false;
