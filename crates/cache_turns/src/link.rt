@@ -225,6 +225,7 @@ fn hear<A: Allocator + Clone>(cache: &mut Cache<A>, client: u64, octets: &[u8])
 }
 
 // Takes what the cache has queued for the client, as much as fits, where nothing waits.
+#[tactic(auto, unfolding(wires::specs::TurnOctets::turn_octets, wires::specs::TurnOctets::outgoing_octets))]
 fn refill<A: Allocator + Clone>(
     outgoing: &mut Outgoing<A>,
     cache: &mut Cache<A>,

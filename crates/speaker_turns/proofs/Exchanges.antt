@@ -8,7 +8,7 @@ use Rattle.runs.specs.SpeakerState.{SpeakerState}
 use Rattle.routing.specs.Tables.{link_at}
 use Rattle.wires.specs.Calls.{WireCall, Read, Write}
 use Rattle.wires.specs.Carried.{given, given_by, taken, taken_by}
-use Rattle.wires.specs.TurnOctets.{turn_octets}
+use Rattle.wires.specs.TurnOctets.{outgoing_octets}
 use Rattle.wires.specs.Wires.{WireState, writing}
 use Rattle.wires.specs.declared.wire.Received.{Received}
 use Rattle.wires.specs.declared.wire.Received.TheVariants.{Octets as Came, Nothing as NoneCame, End as InputEnd, Fault as ReadFault}
@@ -151,7 +151,7 @@ hands_carry key number octets wire old new few hands = by_ring (is_there old (en
     by_ring false is same =
         nothing_carries key number [] octets (record { wire = wire; speaker = old }) (record { wire = wire; speaker = new })
         (ap (λ (s : SpeakerState). record { wire = wire; speaker = s }) same)
-        (hands.octets_are ∙ take_none turn_octets (queued_for old (end_at key)) (absent_queue (end_at key) old is))
+        (hands.octets_are ∙ take_none outgoing_octets (queued_for old (end_at key)) (absent_queue (end_at key) old is))
 
 takes_carries : (key number : ℕ) (waiting octets : List ℕ) (wire : WireState) (old new : SpeakerState) → key < 65 → Takes (end_at key) waiting old octets new → Carries key number waiting octets (record { wire = wire; speaker = old }) (record { wire = wire; speaker = new })
 takes_carries key number [] octets wire old new few takes = hands_carry key number octets wire old new few (takes.none_wait refl)

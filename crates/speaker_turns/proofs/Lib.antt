@@ -4,6 +4,7 @@ mod Counting
 pub mod Effects
 mod Ending
 mod Exchanges
+pub mod Fronts
 pub mod Listening
 pub mod Outlasting
 pub mod Patient

@@ -6,7 +6,7 @@ use Rattle.net_prefix.specs.declared.transport.Transport.TheVariants as transpor
 use Rattle.runs.specs.FirstRefusal.{awaits_up, may_bring_octets, may_fail}
 use Rattle.runs.specs.SpeakerState.{SpeakerState}
 use Rattle.wires.specs.Calls.{Connect}
-use Rattle.wires.specs.TurnOctets.{turn_octets}
+use Rattle.wires.specs.TurnOctets.{outgoing_octets, turn_octets}
 use Rattle.wires.specs.Wires.{FitsIn, WireState, attempting, calling, closing, failing, looking, one_more, reading, writing}
 use Rattle.wires.specs.declared.wire.Attempt.{Attempt}
 use Rattle.wires.specs.declared.wire.Attempt.TheVariants.{Connected, Pending, Fault as AttemptFault}
@@ -102,9 +102,9 @@ pub record Reads (end : End) (number : ℕ) (received : Received) (old new : Sid
   pub asks : new.wire ≡ reading number buf received old.wire
   pub hears : Hears received end buf old.speaker new.speaker
 
--- the speaker hands out the first octets that it has queued for the session, as many as turn_octets are
+-- the speaker hands out the first octets that it has queued for the session, as many as outgoing_octets are
 pub record HandsOut (end : End) (old : SpeakerState) (octets : List ℕ) (new : SpeakerState) : Type 0 where
-  pub octets_are : octets ≡ take turn_octets (queued_for old end)
+  pub octets_are : octets ≡ take outgoing_octets (queued_for old end)
   pub asks : Asks (take_call end octets) (is_there old end) old new
 
 -- what is to be written: where nothing waits, what the speaker hands out; while octets wait, just these, and the speaker is asked nothing

@@ -3,14 +3,14 @@
 //! `SpeakerLoop` serves the sessions of a `speaker` (RFC 4271, and RFC 8210 towards a cache) over a `Wire`, which keeps each
 //! of its calls in mind, with the answer. A turn returns whatever the wire does, and takes no memory of its own: it begins to
 //! connect where a session's attempt has begun, asks for a connection once and lets in one at most, visits each connection
-//! once, and tells the speaker the moment (`specs/Turns.antt`). A visit reads once, into a buffer of 4,096 octets, and the
-//! session hears just what its own socket gave. Then it writes once, where there is anything to write: it offers all octets
-//! that wait, or where none wait those that the speaker hands out; what doesn't go waits, and while octets wait nothing more
-//! is taken of the speaker (`specs/Serving.antt`). A connection ends where its socket has told a fault or the end of its
-//! input, or where the speaker has closed its session and all that was said is written, or wasn't for a minute; where octets
-//! have waited of which none went, or no whole OPEN has come, for as long as the loop is patient (`Patience`); an attempt where
-//! it fails or the speaker doesn't want it any more. Each of these ends is counted as lost, but for what isn't wanted. Where
-//! the wire listens, and how patient the loop is, no turn changes.
+//! once, and tells the speaker the moment (`specs/Turns.antt`). A visit reads once, 4,096 octets at most, and the session hears
+//! just what its own socket gave. Then it writes once, where there is anything to write: it offers all octets that wait, or
+//! where none wait those that the speaker hands out, 16,384 at most, since what is passed on is longer than what came; what
+//! doesn't go waits, and while octets wait nothing more is taken of the speaker (`specs/Serving.antt`). A connection ends where
+//! its socket has told a fault or the end of its input, or where the speaker has closed its session and all that was said is
+//! written, or wasn't for a minute; where octets have waited of which none went, or no whole OPEN has come, for as long as the
+//! loop is patient (`Patience`); an attempt where it fails or the speaker doesn't want it any more. Each of these ends is
+//! counted as lost, but for what isn't wanted. Where the wire listens, and how patient the loop is, no turn changes.
 //!
 //! Losing a session may take the speaker long, where it had many routes. So of the connections that the wire tells to be ending
 //! one is visited a turn, the others are put off, and each comes to its turn: between two of them all other connections are

@@ -1,7 +1,7 @@
 //! The place of one session: its connection, and what happens to it in a turn.
 ghost use Rattle.std.specs.Prelude.{◌≡◌, ◌↔◌, IfOk, IsTrue, None, Some, false, length, true};
 ghost use Rattle.runs.specs.FirstRefusal.{awaits_up};
-ghost use Rattle.wires.specs.TurnOctets.{turn_octets};
+ghost use Rattle.wires.specs.TurnOctets.{outgoing_octets};
 ghost use Rattle.wires.specs.Wires.{closing};
 ghost use Rattle.wires.specs.declared.wire.Parting.TheVariants.{NoPlace};
 ghost use Rattle.speaker_turns.specs.Serving.{Begins, GivesWayWhat, LooksWhat, Visits, VisitsUnless, awaited_at, seated, up};
@@ -189,9 +189,9 @@ impl<W: Wire, A: Allocator + Clone> Place<W, A> {
         speaker: &mut Speaker<A, B>,
         buf: &mut [u8],
     ) -> (Visit, bool)
-        requires { length buf.old ≡ turn_octets }
+        requires { length buf.old ≡ outgoing_octets }
         ensures visits { VisitsUnless is_off now end self.old (record { wire = W.state wire.old; speaker = speaker.old }) result.0 result.1 self.new (record { wire = W.state wire.new; speaker = speaker.new }) }
-        ensures room { length buf.new ≡ turn_octets }
+        ensures room { length buf.new ≡ outgoing_octets }
     {
         let is_ending = self.is_ending(wire);
         if is_ending && is_off {
@@ -219,9 +219,9 @@ impl<W: Wire, A: Allocator + Clone> Place<W, A> {
         speaker: &mut Speaker<A, B>,
         buf: &mut [u8],
     ) -> Visit
-        requires { length buf.old ≡ turn_octets }
+        requires { length buf.old ≡ outgoing_octets }
         ensures visits { Visits now end self.old (record { wire = W.state wire.old; speaker = speaker.old }) result self.new (record { wire = W.state wire.new; speaker = speaker.new }) }
-        ensures room { length buf.new ≡ turn_octets }
+        ensures room { length buf.new ≡ outgoing_octets }
     {
         let Some(mut line) = self.line.take() else {
             return Visit::Stays;

@@ -1,7 +1,7 @@
 //! A visit to a connection, or to an attempt at one.
 ghost use Rattle.std.specs.Prelude.{◌≡◌, ℕ, List, length};
 ghost use Rattle.runs.specs.FirstRefusal.{may_bring_octets};
-ghost use Rattle.wires.specs.TurnOctets.{turn_octets};
+ghost use Rattle.wires.specs.TurnOctets.{outgoing_octets, turn_octets};
 ghost use Rattle.speaker_turns.specs.Serving.{Answers, AnswersAt, Attends, AttendsAttempt, AttendsUp, Looks, Loses, Reads, Serves, Settles, Takes, Writes, answered_so, is_opening, judged, line_left};
 ghost use Rattle.speaker_turns.specs.Sessions.{transport_of};
 
@@ -14,7 +14,7 @@ use decision::Book;
 use net_prefix::Transport;
 use speaker::Speaker;
 use std::alloc::Allocator;
-use wires::{Attempt, Outgoing, Parting, Received, Sent, Wire};
+use wires::{Attempt, Outgoing, Parting, Received, Sent, TURN_OCTETS, Wire};
 
 /// What came is handed to the session, and what the speaker has queued for it goes out; an attempt is asked how it stands.
 pub(crate) fn attend<W: Wire, A: Allocator + Clone, B: Book<A>>(
@@ -26,9 +26,9 @@ pub(crate) fn attend<W: Wire, A: Allocator + Clone, B: Book<A>>(
     speaker: &mut Speaker<A, B>,
     buf: &mut [u8],
 ) -> Visit
-    requires { length buf.old ≡ turn_octets }
+    requires { length buf.old ≡ outgoing_octets }
     ensures attends { Attends line.old.is_up end now line.old outgoing.old (record { wire = W.state wire.old; speaker = speaker.old }) result line.new outgoing.new (record { wire = W.state wire.new; speaker = speaker.new }) }
-    ensures room { length buf.new ≡ turn_octets }
+    ensures room { length buf.new ≡ outgoing_octets }
 {
     match line.is_up {
         true => attend_connection(line, outgoing, end, now, wire, speaker, buf),
@@ -46,9 +46,9 @@ fn attend_connection<W: Wire, A: Allocator + Clone, B: Book<A>>(
     speaker: &mut Speaker<A, B>,
     buf: &mut [u8],
 ) -> Visit
-    requires { length buf.old ≡ turn_octets }
+    requires { length buf.old ≡ outgoing_octets }
     ensures attends { AttendsUp (may_bring_octets (transport_of speaker.old end)) end now line.old outgoing.old (record { wire = W.state wire.old; speaker = speaker.old }) result line.new outgoing.new (record { wire = W.state wire.new; speaker = speaker.new }) }
-    ensures room { length buf.new ≡ turn_octets }
+    ensures room { length buf.new ≡ outgoing_octets }
 {
     match transport(speaker, end) {
         Transport::Open | Transport::Closing => {
@@ -106,9 +106,9 @@ fn serve<W: Wire, A: Allocator + Clone, B: Book<A>>(
     speaker: &mut Speaker<A, B>,
     buf: &mut [u8],
 ) -> Visit
-    requires { length buf.old ≡ turn_octets }
+    requires { length buf.old ≡ outgoing_octets }
     ensures serves { Serves end now line.old outgoing.old (record { wire = W.state wire.old; speaker = speaker.old }) result line.new outgoing.new (record { wire = W.state wire.new; speaker = speaker.new }) }
-    ensures room { length buf.new ≡ turn_octets }
+    ensures room { length buf.new ≡ outgoing_octets }
 {
     match receive(line, end, wire, speaker, buf) {
         Received::Octets(_) | Received::Nothing => {
@@ -119,8 +119,25 @@ fn serve<W: Wire, A: Allocator + Clone, B: Book<A>>(
     }
 }
 
-// Hands what came to the session.
+// Reads into the front of the buffer, and hands what came to the session.
+#[tactic(auto, using(crate::proofs::Fronts::front_room), unfolding(wires::specs::TurnOctets::turn_octets, wires::specs::TurnOctets::outgoing_octets))]
 fn receive<W: Wire, A: Allocator + Clone, B: Book<A>>(
+    line: &mut Line<W>,
+    end: End,
+    wire: &mut W,
+    speaker: &mut Speaker<A, B>,
+    buf: &mut [u8],
+) -> Received
+    requires { length buf.old ≡ outgoing_octets }
+    ensures reads { Reads end line.old.number result (record { wire = W.state wire.old; speaker = speaker.old }) (record { wire = W.state wire.new; speaker = speaker.new }) }
+    ensures same { line.new ≡ line.old }
+    ensures room { length buf.new ≡ outgoing_octets }
+{
+    receive_into(line, end, wire, speaker, &mut buf[..TURN_OCTETS])
+}
+
+// Reads into this buffer, and hands what came to the session.
+fn receive_into<W: Wire, A: Allocator + Clone, B: Book<A>>(
     line: &mut Line<W>,
     end: End,
     wire: &mut W,
@@ -130,7 +147,6 @@ fn receive<W: Wire, A: Allocator + Clone, B: Book<A>>(
     requires { length buf.old ≡ turn_octets }
     ensures reads { Reads end line.old.number result (record { wire = W.state wire.old; speaker = speaker.old }) (record { wire = W.state wire.new; speaker = speaker.new }) }
     ensures same { line.new ≡ line.old }
-    ensures room { length buf.new ≡ turn_octets }
 {
     let received = wire.read(&mut line.socket, buf);
     if let Received::Octets(count) = received {
@@ -150,9 +166,9 @@ fn answer_now<W: Wire, A: Allocator + Clone, B: Book<A>>(
     speaker: &mut Speaker<A, B>,
     buf: &mut [u8],
 ) -> Visit
-    requires { length buf.old ≡ turn_octets }
+    requires { length buf.old ≡ outgoing_octets }
     ensures answers { AnswersAt end now line.old outgoing.old (record { wire = W.state wire.old; speaker = speaker.old }) result line.new outgoing.new (record { wire = W.state wire.new; speaker = speaker.new }) }
-    ensures room { length buf.new ≡ turn_octets }
+    ensures room { length buf.new ≡ outgoing_octets }
 {
     let waited = outgoing.octets().len();
     let found = answer(line, outgoing, end, wire, speaker, buf);
@@ -197,10 +213,10 @@ fn answer<W: Wire, A: Allocator + Clone, B: Book<A>>(
     speaker: &mut Speaker<A, B>,
     buf: &mut [u8],
 ) -> Visit
-    requires { length buf.old ≡ turn_octets }
+    requires { length buf.old ≡ outgoing_octets }
     ensures answers { Answers end line.old.number outgoing.old (record { wire = W.state wire.old; speaker = speaker.old }) result outgoing.new (record { wire = W.state wire.new; speaker = speaker.new }) }
     ensures same { line.new ≡ line.old }
-    ensures room { length buf.new ≡ turn_octets }
+    ensures room { length buf.new ≡ outgoing_octets }
 {
     refill(outgoing, end, speaker, buf);
     if outgoing.is_empty() {
@@ -219,9 +235,9 @@ fn refill<A: Allocator + Clone, B: Book<A>>(
     speaker: &mut Speaker<A, B>,
     buf: &mut [u8],
 )
-    requires { length buf.old ≡ turn_octets }
+    requires { length buf.old ≡ outgoing_octets }
     ensures takes { Takes end outgoing.old speaker.old outgoing.new speaker.new }
-    ensures room { length buf.new ≡ turn_octets }
+    ensures room { length buf.new ≡ outgoing_octets }
 {
     if outgoing.is_empty() {
         let count = take(speaker, end, buf);

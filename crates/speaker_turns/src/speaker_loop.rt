@@ -1,7 +1,7 @@
 //! The turns of a speaker: sessions connect, hear and are answered.
 ghost use Rattle.std.specs.Prelude.{◌≡◌, ◌<◌, ◌≤◌, ◌||◌, ℕ, IfOk, MatchOption, OnOk, Some, if◌then◌else◌, is_some, length, nat_lt, replicate, []};
 ghost use Rattle.std.specs.Option.{IfSome};
-ghost use Rattle.wires.specs.TurnOctets.{turn_octets};
+ghost use Rattle.wires.specs.TurnOctets.{outgoing_octets};
 ghost use Rattle.speaker_turns.specs.Ends.{place_count};
 ghost use Rattle.speaker_turns.specs.Obeying.{Obeys};
 ghost use Rattle.speaker_turns.specs.Serving.{Begins, VisitsUnless};
@@ -19,7 +19,7 @@ use std::alloc::{AllocError, Allocator, Global};
 use std::marker::Model;
 use std::net::SocketAddr;
 use std::time::Duration;
-use wires::{Accepted, LoopFault, Parting, TURN_OCTETS, Wire};
+use wires::{Accepted, LoopFault, OUTGOING_OCTETS, Parting, Wire};
 
 /// A speaker and the connections of its sessions.
 #[derive(Drop)]
@@ -216,13 +216,13 @@ impl<W: Wire + Drop, A: Allocator + Clone, B: Book<A>> SpeakerLoop<W, A, B> {
     }
 
     // Visits each place, and tells at which a connection that ends was visited.
-    #[tactic(auto, unfolding(wires::specs::TurnOctets::turn_octets))]
+    #[tactic(auto, unfolding(wires::specs::TurnOctets::outgoing_octets))]
     fn visit_each(&mut self, now: Moment) -> Option<usize>
         ensures visits { AtAll (VisitsBut self.old.next result now) self.old self.new }
         ensures within { IfSome result (λ one. (self.old.next ≤ one) × (one < length self.old.places)) }
         ensures few { IfSome result (λ one. one < place_count) }
     {
-        let mut buf = [0; TURN_OCTETS];
+        let mut buf = [0; OUTGOING_OCTETS];
         let mut one = None;
         for place in 0..self.places.len() {
             let is_off = is_put_off(place, self.next, one);
@@ -235,9 +235,9 @@ impl<W: Wire + Drop, A: Allocator + Clone, B: Book<A>> SpeakerLoop<W, A, B> {
     // Tells whether a connection that ends was visited.
     fn visit(&mut self, place: usize, is_off: bool, now: Moment, buf: &mut [u8]) -> bool
         requires place { place < length self.old.places }
-        requires room { length buf.old ≡ turn_octets }
+        requires room { length buf.old ≡ outgoing_octets }
         ensures visits { AtPlace (λ end old before visit new behind. VisitsUnless is_off now end old before visit result new behind) self.old place self.new }
-        ensures room { length buf.new ≡ turn_octets }
+        ensures room { length buf.new ≡ outgoing_octets }
     {
         let (visit, is_one) = self.places[place].visit_unless(
             is_off,

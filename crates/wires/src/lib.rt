@@ -13,5 +13,5 @@ mod wire;
 
 pub use fault::LoopFault;
 pub use log::{Log, Note};
-pub use outgoing::{Outgoing, TURN_OCTETS};
+pub use outgoing::{OUTGOING_OCTETS, Outgoing, TURN_OCTETS};
 pub use wire::{Accepted, Attempt, Parting, Received, Sent, Wire};

@@ -1,12 +1,15 @@
 //! What waits to be written to a connection.
 ghost use Rattle.std.specs.Prelude.{◌≡◌, ◌≤◌, ◌↔◌, [], IfOk, IsTrue, drop, length, take};
-ghost use Rattle.wires.specs.TurnOctets.{turn_octets};
+ghost use Rattle.wires.specs.TurnOctets.{outgoing_octets};
 
 use std::alloc::{AllocError, Allocator, Global};
 use std::marker::Model;
 
-/// The most octets that a turn reads of a connection, and the most that wait to be written to it.
+/// The most octets that a turn reads of a connection.
 pub const TURN_OCTETS: usize = 4_096;
+
+/// The most octets that wait to be written to it: more than a turn reads, since what is passed on is longer than what came.
+pub const OUTGOING_OCTETS: usize = 16_384;
 
 /// The octets that were handed out for a socket and not yet written.
 #[derive(Drop)]
@@ -18,23 +21,23 @@ pub struct Outgoing<A: Allocator = Global> {
 
 impl<A: Allocator> Model for Outgoing<A> {
     ghost use Rattle.std.specs.Prelude.{ℕ, List, ◌≡◌, ◌≤◌, slice_range, vec_len};
-    ghost use Rattle.wires.specs.TurnOctets.{turn_octets};
+    ghost use Rattle.wires.specs.TurnOctets.{outgoing_octets};
 
     ghost Value = { List ℕ };
 
     ghost view = { λ outgoing. slice_range outgoing.octets.items outgoing.from outgoing.to };
 
-    ghost invariant = { λ outgoing. (outgoing.from ≤ outgoing.to) × (outgoing.to ≤ vec_len outgoing.octets) × (vec_len outgoing.octets ≡ turn_octets) };
+    ghost invariant = { λ outgoing. (outgoing.from ≤ outgoing.to) × (outgoing.to ≤ vec_len outgoing.octets) × (vec_len outgoing.octets ≡ outgoing_octets) };
 }
 
 impl<A: Allocator + Clone> Outgoing<A> {
     /// None.
-    #[tactic(auto, unfolding(crate::specs::TurnOctets::turn_octets))]
+    #[tactic(auto, unfolding(crate::specs::TurnOctets::outgoing_octets))]
     pub fn new(alloc: A) -> Result<Self, AllocError>
         ensures { IfOk result (λ outgoing. outgoing ≡ []) }
     {
         Ok(Outgoing {
-            octets: vec![in alloc; 0; TURN_OCTETS]?,
+            octets: vec![in alloc; 0; OUTGOING_OCTETS]?,
             from: 0,
             to: 0,
         })
@@ -57,7 +60,7 @@ impl<A: Allocator + Clone> Outgoing<A> {
     /// These were handed out, where none waited.
     pub fn hold(&mut self, octets: &[u8])
         requires none { self.old ≡ [] }
-        requires few { length octets.now ≤ turn_octets }
+        requires few { length octets.now ≤ outgoing_octets }
         ensures { self.new ≡ octets.now }
     {
         put_first(self.octets.as_mut_slice(), octets);
