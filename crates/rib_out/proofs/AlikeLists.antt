@@ -1,5 +1,5 @@
 -- What is listed by slot, number and prefix, in order.
-use Rattle.std.proofs.Common.{◌≡◌, ◌≢◌, ◌≤◌, ◌==◌, ◌&&◌, ℕ, Bool, true, false, cond, Result, Ok, Err, OnOk, refl, sym, ◌∙◌, arith}
+use Rattle.std.proofs.Common.{◌≡◌, ◌≢◌, ◌≤◌, ◌==◌, ◌&&◌, ℕ, Bool, true, false, cond, Result, Ok, Err, OnOk, ◌⊎◌, inl, inr, refl, sym, ◌∙◌, arith}
 use Rattle.std.proofs.lemmas.Bool.Decides.{nat_tests}
 use Rattle.std.specs.BTreeMap.{is_at}
 use Rattle.std.specs.BTreeSet.{BTreeSet, contains, Updates}
@@ -9,6 +9,7 @@ use Rattle.std.specs.declared.cmp.Ordering.{Ordering}
 use Rattle.std.specs.declared.cmp.Ordering.TheVariants.{Less, Equal, Greater}
 use Rattle.net_prefix.specs.PrefixOrder.{prefix_cmp}
 use Rattle.net_prefix.specs.declared.prefix.Prefix.{Prefix}
+use Rattle.prefix_trie.proofs.MapLaws.{one_prefix}
 use Rattle.rib_out.specs.Alike.{alike, alike_cmp}
 use Rattle.rib_out.specs.Held.{is_prefix}
 use Rattle.rib_out.specs.declared.alike.Alike.{Alike as Entry}
@@ -103,6 +104,34 @@ held_case false c h = h
 -- what is listed is listed still behind one more
 pub put_keeps : (k e : Entry) (old new : BTreeSet Entry) → Updates alike_cmp old new k true → contains alike_cmp old e ≡ true → contains alike_cmp new e ≡ true
 put_keeps k e old new u h = u.0 e ∙ held_case (is_at (alike_cmp k) e) (contains alike_cmp old e) h
+
+equal_parts : (o p : Ordering) → is_eq (ordering_then o p) ≡ true → (is_eq o ≡ true) × (is_eq p ≡ true)
+equal_parts Less p h = absurd cc
+equal_parts Equal p h = (refl, h)
+equal_parts Greater p h = absurd cc
+
+same_number : (a b : ℕ) → is_eq (nat_cmp a b) ≡ true → b ≡ a
+same_number a b h = grind (arith, nat_tests)
+
+-- entries that stand at one place are one
+same_entry : (e f : Entry) → is_eq (alike_cmp e f) ≡ true → f ≡ e
+same_entry e f h =
+    let by_slot = equal_parts (nat_cmp e.slot f.slot) (ordering_then (nat_cmp e.number f.number) (prefix_cmp e.prefix f.prefix)) h in
+    let by_number = equal_parts (nat_cmp e.number f.number) (prefix_cmp e.prefix f.prefix) by_slot.1 in
+    λ i. record { slot = same_number e.slot f.slot by_slot.0 i; number = same_number e.number f.number by_number.0 i; prefix = sym (one_prefix e.prefix f.prefix by_number.1) i }
+
+-- what is listed behind one more was listed before, or is that one
+pub put_only : (k e : Entry) (old new : BTreeSet Entry) → Updates alike_cmp old new k true → contains alike_cmp new e ≡ true → (contains alike_cmp old e ≡ true) ⊎ (e ≡ k)
+put_only k e old new u there = by_place (is_at (alike_cmp k) e) refl (sym (u.0 e) ∙ there)
+  where
+    by_place : (b : Bool) → is_at (alike_cmp k) e ≡ b → cond b true (contains alike_cmp old e) ≡ true → (contains alike_cmp old e ≡ true) ⊎ (e ≡ k)
+    by_place true is h = inr (same_entry k e is)
+    by_place false other h = inl h
+
+-- what is listed without a slot was listed with it
+pub fewer_without : (slot : ℕ) (e : Entry) (old new : BTreeSet Entry)
+    → (e.slot ≢ slot → contains alike_cmp new e ≡ contains alike_cmp old e) → (e.slot ≡ slot → contains alike_cmp new e ≡ false) → contains alike_cmp new e ≡ true → contains alike_cmp old e ≡ true
+fewer_without slot e old new others none there = sym (others (λ same. let clash : true ≡ false = sym there ∙ none same in absurd cc)) ∙ there
 
 pub on_ok : {T E : Type 0} (r : Result T E) (P : Type 0) → OnOk r P → is_err r ≡ false → P
 on_ok (Ok x) P h is = h

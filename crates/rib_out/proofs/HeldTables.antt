@@ -100,3 +100,12 @@ none_held table q none = ap (option_map (λ route. route.octets)) none
 pub is_found : {X : Type 0} (o : Option X) (route : X) → o ≡ Some route → IsSome o
 is_found None route found = cc
 is_found (Some here) route found = refl
+
+-- who has asked for nothing again hasn't behind what is told, or told once more
+still_case : (b asked : Bool) → asked ≡ false → cond b false asked ≡ false
+still_case true asked none = refl
+still_case false asked none = none
+
+pub still_unasked : (old new : List (Prefix × HeldRoute)) (told : Prefix → Bool) → ((q : Prefix) → asked_at new q ≡ cond (told q) false (asked_at old q))
+    → ((q : Prefix) → asked_at old q ≡ false) → (q : Prefix) → asked_at new q ≡ false
+still_unasked old new told asks none q = asks q ∙ still_case (told q) (asked_at old q) (none q)

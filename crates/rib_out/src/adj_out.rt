@@ -24,6 +24,8 @@ pub struct AdjOut<A: Allocator = Global> {
     routes: BTreeMap<Prefix, HeldRoute<A>, A>,
     // Whether it is known that each of them was asked for again, so that asking once more needs no walk.
     is_all_asked: bool,
+    // Whether it is known that none of them was asked for again, so that sending them once more changes nothing.
+    is_none_asked: bool,
 }
 
 /// What a peer holds of a prefix.
@@ -43,15 +45,15 @@ impl<A: Allocator> Model for HeldRoute<A> {
 }
 
 impl<A: Allocator> Model for AdjOut<A> {
-    ghost use Rattle.std.specs.Prelude.{List, ◌≡◌, IsTrue};
+    ghost use Rattle.std.specs.Prelude.{List, ◌≡◌, IsTrue, false};
     ghost use Rattle.net_prefix.specs.declared.prefix.Prefix.{Prefix};
-    ghost use Rattle.rib_out.specs.Held.{HeldRoute, all_asked};
+    ghost use Rattle.rib_out.specs.Held.{HeldRoute, all_asked, asked_at};
 
     ghost Value = { List (Prefix × HeldRoute) };
 
     ghost view = { λ t. t.routes.entries };
 
-    ghost invariant = { λ t. IsTrue t.is_all_asked → all_asked t.routes.entries ≡ t.routes.entries };
+    ghost invariant = { λ t. (IsTrue t.is_all_asked → all_asked t.routes.entries ≡ t.routes.entries) × (IsTrue t.is_none_asked → (q : Prefix) → asked_at t.routes.entries q ≡ false) };
 }
 
 impl<A: Allocator + Clone> AdjOut<A> {
@@ -62,6 +64,7 @@ impl<A: Allocator + Clone> AdjOut<A> {
         AdjOut {
             routes: BTreeMap::new(alloc),
             is_all_asked: true,
+            is_none_asked: true,
         }
     }
 
@@ -88,6 +91,14 @@ impl<A: Allocator + Clone> AdjOut<A> {
         ensures { IsTrue result → all_asked self.now ≡ self.now }
     {
         self.is_all_asked
+    }
+
+    /// Whether it is known that the peer has asked again for none of the prefixes that it holds: sending them once more
+    /// changes nothing.
+    pub fn is_none_asked(&self) -> bool
+        ensures { IsTrue result → (q : Prefix) → asked_at self.now q ≡ false }
+    {
+        self.is_none_asked
     }
 
     /// Whether the peer holds just these octets of a prefix.
@@ -157,6 +168,9 @@ impl<A: Allocator + Clone> AdjOut<A> {
         ensures held { (q : Prefix) → held_at self.new q ≡ held_at self.old q }
         ensures asked { (q : Prefix) → asked_at self.new q ≡ (if is_among q prefixes.now then false else asked_at self.old q) }
     {
+        if self.is_none_asked {
+            return;
+        }
         for prefix in prefixes {
             self.renew(*prefix);
         }
@@ -195,6 +209,7 @@ impl<A: Allocator + Clone> AdjOut<A> {
             true
         });
         self.is_all_asked = true;
+        self.is_none_asked = false;
     }
 
     /// The peer holds nothing any more: its session has ended.
@@ -203,6 +218,7 @@ impl<A: Allocator + Clone> AdjOut<A> {
     {
         self.routes.clear();
         self.is_all_asked = true;
+        self.is_none_asked = true;
     }
 
     /// The least prefix that the peer holds above the given one, or the least of all.

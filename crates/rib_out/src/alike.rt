@@ -1,5 +1,5 @@
 //! What waits to be announced, by the octets that it is announced with.
-ghost use Rattle.std.specs.Prelude.{◌≡◌, ◌≢◌, ◌<◌, ◌==◌, ◌&&◌, ◌||◌, ℕ, List, Some, IfSome, IfNone, true, false};
+ghost use Rattle.std.specs.Prelude.{◌≡◌, ◌≢◌, ◌<◌, ◌==◌, ◌&&◌, ◌||◌, ◌⊎◌, ℕ, List, Some, IfSome, IfNone, true, false};
 ghost use Rattle.std.specs.BTreeSet.{contains};
 ghost use Rattle.std.specs.Ordering.{is_gt};
 ghost use Rattle.net_prefix.specs.PrefixOrder.{prefix_cmp, IsAbove};
@@ -25,14 +25,76 @@ pub(crate) struct Alike {
     pub prefix: Prefix,
 }
 
+// How long the octets are at most whose number is kept.
+const LONGEST_KEPT: usize = 256;
+
+// The octets whose number was made last, with that number: many prefixes in a row wait with the same octets.
+#[derive(Drop)]
+struct LastNumber {
+    // These octets, and others behind them.
+    octets: [u8; LONGEST_KEPT],
+    length: usize,
+    number: u64,
+}
+
+impl Model for LastNumber {
+    ghost use Rattle.std.specs.Prelude.{⊤, ◌≡◌, ◌≤◌, take};
+    ghost use Rattle.rib_out.specs.Alike.{octets_number};
+
+    ghost Value = { ⊤ };
+
+    ghost view = { λ _. tt };
+
+    ghost invariant = { λ last. (last.length ≤ 256) × (last.number ≡ octets_number (take last.length last.octets)) };
+}
+
+impl LastNumber {
+    // The number of no octets.
+    fn new() -> Self {
+        LastNumber {
+            octets: [0; LONGEST_KEPT],
+            length: 0,
+            number: number_of(&[]),
+        }
+    }
+
+    // The number of some octets, made anew only where they are others than the last.
+    fn number_of(&self, octets: &[u8]) -> u64
+        ensures { result ≡ octets_number octets.now }
+    {
+        if &self.octets[..self.length] == octets {
+            self.number
+        } else {
+            number_of(octets)
+        }
+    }
+
+    // The same, and those are the last ones from now on, if they aren't too long.
+    fn keep_number_of(&mut self, octets: &[u8]) -> u64
+        ensures { result ≡ octets_number octets.now }
+    {
+        if &self.octets[..self.length] == octets {
+            return self.number;
+        }
+        let number = number_of(octets);
+        if octets.len() <= LONGEST_KEPT {
+            self.octets[..octets.len()].copy_from_slice(octets);
+            self.length = octets.len();
+            self.number = number;
+        }
+        number
+    }
+}
+
 /// The prefixes that wait to be announced to each slot, by a number of the octets of attributes that they are announced
-/// with, so that those that share an UPDATE are found soon and in order. Where memory is refused to it, a slot's list is
-/// no longer whole until it begins anew.
+/// with, so that those that share an UPDATE are found soon and in order. Different octets may have one number. Where memory
+/// is refused to it, a slot's list is no longer whole until it begins anew.
 #[derive(Drop)]
 pub struct AlikePrefixes<A: Allocator = Global> {
     prefixes: BTreeSet<Alike, A>,
     // The slots whose list is whole, a bit each.
     whole: u64,
+    last: LastNumber,
 }
 
 impl<A: Allocator> Model for AlikePrefixes<A> {
@@ -52,6 +114,7 @@ impl<A: Allocator + Clone> AlikePrefixes<A> {
         AlikePrefixes {
             prefixes: BTreeSet::new(alloc),
             whole: u64::MAX,
+            last: LastNumber::new(),
         }
     }
 
@@ -60,6 +123,7 @@ impl<A: Allocator + Clone> AlikePrefixes<A> {
     pub fn list(&mut self, slot: u8, octets: &[u8], prefix: Prefix)
         requires slot { slot < 64 }
         ensures listed { IsListed self.new slot octets.now prefix }
+        ensures only { (a : Entry) → contains alike_cmp self.new.prefixes a ≡ true → (contains alike_cmp self.old.prefixes a ≡ true) ⊎ (a ≡ alike slot (octets_number octets.now) prefix) }
         ensures kept { (s : ℕ) (o : List ℕ) (p : Prefix) → IsListed self.old s o p → IsListed self.new s o p }
         ensures others { (s : ℕ) → s ≢ slot → has_slot self.new.whole s ≡ has_slot self.old.whole s }
     {
@@ -68,7 +132,7 @@ impl<A: Allocator + Clone> AlikePrefixes<A> {
         }
         let entry = Alike {
             slot,
-            number: number_of(octets),
+            number: self.last.keep_number_of(octets),
             prefix,
         };
         if self.prefixes.insert(entry).is_err() {
@@ -80,6 +144,7 @@ impl<A: Allocator + Clone> AlikePrefixes<A> {
     fn lose(&mut self, slot: u8)
         requires slot { slot < 64 }
         ensures listed { (o : List ℕ) (p : Prefix) → IsListed self.new slot o p }
+        ensures fewer { (a : Entry) → contains alike_cmp self.new.prefixes a ≡ true → contains alike_cmp self.old.prefixes a ≡ true }
         ensures kept { (s : ℕ) (o : List ℕ) (p : Prefix) → IsListed self.old s o p → IsListed self.new s o p }
         ensures others { (s : ℕ) → s ≢ slot → has_slot self.new.whole s ≡ has_slot self.old.whole s }
     {
@@ -94,7 +159,8 @@ impl<A: Allocator + Clone> AlikePrefixes<A> {
         ensures whole { self.new.whole ≡ self.old.whole }
         ensures kept { (s : ℕ) (o : List ℕ) (p : Prefix) → (s == slot && is_prefix prefix p) ≡ false → IsListed self.old s o p → IsListed self.new s o p }
     {
-        self.remove(slot, number_of(octets), prefix);
+        let number = self.last.keep_number_of(octets);
+        self.remove(slot, number, prefix);
     }
 
     // The prefix isn't listed any more for the slot with octets of this number.
@@ -118,7 +184,7 @@ impl<A: Allocator + Clone> AlikePrefixes<A> {
         ensures whole { self.new.whole ≡ self.old.whole }
         ensures kept { (s : ℕ) (o : List ℕ) (p : Prefix) → (s == slot && is_among p prefixes.now) ≡ false → IsListed self.old s o p → IsListed self.new s o p }
     {
-        let number = number_of(octets);
+        let number = self.last.keep_number_of(octets);
         for prefix in prefixes {
             self.remove(slot, number, *prefix);
         }
@@ -152,7 +218,7 @@ impl<A: Allocator + Clone> AlikePrefixes<A> {
         ensures least { has_slot self.now.whole slot ≡ true → IfSome result (λ p. (q : Prefix) → IsAbove (Some after) q → IsListed self.now slot octets.now q → is_gt (prefix_cmp p q) ≡ false) }
         ensures none { has_slot self.now.whole slot ≡ true → IfNone result ((q : Prefix) → IsAbove (Some after) q → IsListed self.now slot octets.now q → ⊥) }
     {
-        let number = number_of(octets);
+        let number = self.last.number_of(octets);
         let last = Alike {
             slot,
             number,

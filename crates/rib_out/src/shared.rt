@@ -1,5 +1,5 @@
 //! Octets of attributes that many prefixes and many peers share.
-ghost use Rattle.std.specs.Prelude.{◌≡◌, IfOk};
+ghost use Rattle.std.specs.Prelude.{◌≡◌, IfOk, OnOk, OnErr, vec_len};
 
 use std::alloc::{AllocError, Allocator, Global};
 use std::marker::Model;
@@ -79,11 +79,13 @@ pub struct RecentOctets<A: Allocator = Global> {
 }
 
 impl<A: Allocator> Model for RecentOctets<A> {
-    ghost use Rattle.std.specs.Prelude.{⊤};
+    ghost use Rattle.std.specs.Prelude.{⊤, ◌≡◌, ◌⊎◌, vec_len};
 
     ghost Value = { ⊤ };
 
     ghost view = { λ _. tt };
+
+    ghost invariant = { λ t. (vec_len t.lists ≡ 0) ⊎ (vec_len t.lists ≡ 16384) };
 }
 
 impl<A: Allocator + Clone> RecentOctets<A> {
@@ -127,7 +129,11 @@ impl<A: Allocator + Clone> RecentOctets<A> {
 // Makes room for all lists, or for none.
 fn make_room<A: Allocator>(
     lists: &mut Vec<Option<(u32, SharedOctets<A>)>, A>,
-) -> Result<(), AllocError> {
+) -> Result<(), AllocError>
+    requires { vec_len lists.old ≡ 0 }
+    ensures all { OnOk result (vec_len lists.new ≡ 16384) }
+    ensures none { OnErr result (vec_len lists.new ≡ 0) }
+{
     lists.reserve_exact(RECENT_LISTS)?;
     for _ in 0..RECENT_LISTS {
         lists.push(None)?;

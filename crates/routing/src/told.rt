@@ -1,11 +1,11 @@
 //! The UPDATEs by which a peer is told of prefixes (RFC 4271 section 4.3).
-ghost use Rattle.std.specs.Prelude.{◌≡◌, ◌≢◌, ◌≤◌, ◌<◌, ◌+◌, ◌^◌, All, true, false, None, Some, OnErr, OnOk, length, if◌then◌else◌};
+ghost use Rattle.std.specs.Prelude.{◌≡◌, ◌≢◌, ◌≤◌, ◌<◌, ◌+◌, ◌^◌, ◌⊎◌, All, true, false, None, Some, OnErr, OnOk, length, if◌then◌else◌};
 ghost use Rattle.std.specs.Bool.{OnFalse, OnTrue};
 ghost use Rattle.bgp_fsm.specs.declared.state.State.TheVariants.{Established};
 ghost use Rattle.bgp_msg.specs.MessageSpelling.{wire_form};
 ghost use Rattle.net_prefix.specs.declared.prefix.Prefix.{Prefix as ThePrefix};
 ghost use Rattle.rib_out.specs.Held.{asked_at, held_at, is_among};
-ghost use Rattle.routing.specs.Packing.{most_named};
+ghost use Rattle.routing.specs.Packing.{IsNewTo, most_named};
 ghost use Rattle.routing.specs.Places.{rank_of};
 ghost use Rattle.routing.specs.Told.{HasRoom, IsTold, update_saying};
 
@@ -45,6 +45,7 @@ pub fn announce<A: Allocator + Clone>(
     requires room { HasRoom link.old }
     requires places { All (λ p. rank_of p < 2 ^ 38) named.now }
     requires fits { length octets.now.items + length (wire_form named.now) ≤ most_named }
+    requires news { (q : ThePrefix) × (is_among q named.now ≡ true) × IsNewTo link.old q (Some octets.now.items) }
     ensures told { OnOk result (IsTold named.now (Some octets.now.items) link.old link.new) }
     ensures message { OnOk result (message.new.items ≡ update_saying named.now (Some octets.now.items)) }
     ensures err { OnErr result (link.new ≡ link.old) }
@@ -64,17 +65,31 @@ fn hold<A: Allocator + Clone>(
     named: &[Prefix],
     octets: &Octets,
 ) -> Result<(), AllocError>
+    requires { (q : ThePrefix) × (is_among q named.now ≡ true) × ((held_at adj_out.old q ≢ Some octets.now.items) ⊎ (asked_at adj_out.old q ≡ true)) }
     ensures held { OnOk result ((q : ThePrefix) → held_at adj_out.new q ≡ (if is_among q named.now then Some octets.now.items else held_at adj_out.old q)) }
     ensures asked { OnOk result ((q : ThePrefix) → asked_at adj_out.new q ≡ (if is_among q named.now then false else asked_at adj_out.old q)) }
     ensures err { OnErr result (adj_out.new ≡ adj_out.old) }
     ensures others { OnErr result ((q : ThePrefix) × (is_among q named.now ≡ true) × (held_at adj_out.old q ≢ Some octets.now.items)) }
 {
-    if holds_all(adj_out, named, octets) {
+    if is_renewal(adj_out, named, octets) {
         adj_out.renew_all(named);
         return Ok(());
     }
     let held = recent.shared(octets.as_slice())?;
     adj_out.announce_all(named, &held, undo)
+}
+
+// Whether the peer holds just these octets of all these prefixes, one of which is new to it or was asked for again. Where
+// none was asked for, nothing is looked up.
+fn is_renewal<A: Allocator + Clone>(adj_out: &AdjOut<A>, named: &[Prefix], octets: &Octets) -> bool
+    requires { (q : ThePrefix) × (is_among q named.now ≡ true) × ((held_at adj_out.now q ≢ Some octets.now.items) ⊎ (asked_at adj_out.now q ≡ true)) }
+    ensures all { OnTrue result ((q : ThePrefix) → is_among q named.now ≡ true → held_at adj_out.now q ≡ Some octets.now.items) }
+    ensures one { OnFalse result ((q : ThePrefix) × (is_among q named.now ≡ true) × (held_at adj_out.now q ≢ Some octets.now.items)) }
+{
+    if adj_out.is_none_asked() {
+        return false;
+    }
+    holds_all(adj_out, named, octets)
 }
 
 // Whether the peer holds just these octets of all these prefixes.

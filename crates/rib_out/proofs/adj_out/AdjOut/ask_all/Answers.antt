@@ -15,10 +15,10 @@ returns-clause-asked g c = λ q. ap (λ table. asked_at table q) (returns-clause
 
 pub returns-then-self-clause-asked : goal.returns-then-self-clause-asked
 returns-then-self-clause-asked g c = λ q.
-    let same : all_asked c.args.self.now ≡ c.args.self.now = rw (← c.self.view_is) (c.self.invariant c.if-self.true) in
+    let same : all_asked c.args.self.now ≡ c.args.self.now = rw (← c.self.view_is) (c.self.invariant.0 c.if-self.true) in
     ap (λ table. asked_at table q) (sym same) ∙ asked_at-all_asked c.args.self.now q
 
 pub invariant_of-self : goal.invariant_of-self
-invariant_of-self g c = λ is.
+invariant_of-self g c =
     let asked : c.retain.new.self.entries ≡ all_asked c.self.inside.routes.entries = rw c.self.view_is (returns-clause-all g c) in
-    ap all_asked asked ∙ again_all_asked c.self.inside.routes.entries ∙ sym asked
+    (λ is. ap all_asked asked ∙ again_all_asked c.self.inside.routes.entries ∙ sym asked, λ is. absurd cc)

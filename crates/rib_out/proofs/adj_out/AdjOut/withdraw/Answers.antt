@@ -1,5 +1,6 @@
 use Rattle.std.proofs.Common.{None}
-use Rattle.rib_out.proofs.HeldTables.{asked_of-put, held_of-put}
+use Rattle.rib_out.specs.Held.{is_prefix}
+use Rattle.rib_out.proofs.HeldTables.{asked_of-put, held_of-put, still_unasked}
 use Rattle.rib_out.proofs.adj_out.AdjOut.withdraw.Goals as goal
 
 pub returns-clause-held : goal.returns-clause-held
@@ -7,3 +8,7 @@ returns-clause-held g c = λ q. rw (← c.self.view_is) (held_of-put _ _ c.args.
 
 pub returns-clause-asked : goal.returns-clause-asked
 returns-clause-asked g c = λ q. rw (← c.self.view_is) (asked_of-put _ _ c.args.prefix None c.remove.ensures.updates.0 q)
+
+pub invariant_of-self : goal.invariant_of-self
+invariant_of-self g c =
+    (λ is. absurd cc, λ is. still_unasked c.self.inside.routes.entries _ (is_prefix c.args.prefix) (λ q. asked_of-put _ _ c.args.prefix None c.remove.ensures.updates.0 q) (c.self.invariant.1 is))

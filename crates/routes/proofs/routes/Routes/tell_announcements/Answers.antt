@@ -18,6 +18,11 @@ invariant_of-self-in_err-announce g c =
           (sym c.in-Some.ensures.value) (ap (λ (l : Linked). l.peer.session) same) (ap (λ (l : Linked). l.adj_out) same) put,
     )
 
+pub announce-requires-clause-news : goal.announce-requires-clause-news
+announce-requires-clause-news g c =
+    let news = rw (← c.self.view_is) at c.requires.news in
+    (c.args.least, rw c.as_slice.ensures.value c.name_announcements.ensures.least, news c.in-Some.link.now (sym c.in-Some.ensures.value))
+
 same_link : (a b : Linked) → Some a ≡ Some b → a ≡ b
 same_link a b is = cc
 
