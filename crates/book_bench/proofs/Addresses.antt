@@ -1,16 +1,17 @@
 -- Candidates that have their slots for addresses.
-use Rattle.std.proofs.Common.{◌≡◌, ◌≢◌, ℕ, ◌+◌, ◌<◌, ◌≤◌, Bool, true, false, cond, nat_eq, ◌&&◌, List, [], ◌∷◌, ◌++◌, length, All, Option, None, Some, IfSome, refl, sym, ◌∙◌, ap, subst, arith}
+use Rattle.std.proofs.Common.{◌≡◌, ℕ, ◌+◌, ◌<◌, ◌≤◌, Bool, true, false, cond, nat_eq, not, ◌&&◌, List, [], ◌∷◌, ◌++◌, length, All, Option, None, Some, IfSome, option_and_then, option_map, refl, sym, ◌∙◌, ap, subst, arith}
 use Rattle.std.proofs.lemmas.Bool.Decides.{nat_tests}
 use Rattle.std.proofs.lemmas.List.Elements.{All-cons, All-head, All-nil, All-push, All-tail}
 use Rattle.std.proofs.lemmas.List.Kept.{AllPairs-cons}
-use Rattle.std.specs.Ordering.{is_eq}
-use Rattle.net_prefix.proofs.Ranks.{cmp_same}
-use Rattle.book_bench.specs.Addressed.{AreAddressed, IsOwn}
-use Rattle.decision.specs.BookContents.{AreApart, changed, is_prefix}
+use Rattle.std.specs.Map.{lookup}
+use Rattle.book_bench.specs.Addressed.{AreAddressed, IsOwn, IsSound}
+use Rattle.decision.specs.BookContents.{AreApart, Kept, candidate_of, changed, is_placed}
+use Rattle.decision.specs.KeptPlaces.{IsKept, alone, with_changes, without_slot}
 use Rattle.decision.specs.Selection.{AreDistinct, DifferInRank}
 use Rattle.decision.specs.declared.book.Change.{Change}
 use Rattle.decision.specs.declared.candidate.Candidate.{Candidate}
-use Rattle.net_prefix.specs.declared.prefix.Prefix.{Prefix}
+use Rattle.decision.proofs.NewPlaces.{kept_added, kept_alone}
+use Rattle.decision.proofs.PlaceLists.{added_case, candidate_without, lookup_mapped}
 
 by_equation : (s : ℕ) (o : Option Candidate) (c : Candidate) → IfSome o (λ d. d.address ≡ s) → o ≡ Some c → c.address ≡ s
 by_equation s None c h e = cc
@@ -42,29 +43,56 @@ pub keeps_two : (first second : Change) → IsOwn first → IsOwn second → Kee
 keeps_two first second own also s o old = keeps_one second also s (changed (first ∷ []) s o) (keeps_one first own s o old)
 
 -- candidates of different addresses are apart
-pub apart_kept : (f : ℕ → Option Candidate → Option Candidate) → Keeps f → (old : ℕ → Prefix → Option Candidate) → AreAddressed old → (p : Prefix) → AreApart (λ s. f s (old s p))
-apart_kept f keeps old all p s t c d ne is also same address =
-    ne (sym (by_equation s (f s (old s p)) c (keeps s (old s p) (all s p)) is) ∙ address ∙ by_equation t (f t (old t p)) d (keeps t (old t p) (all t p)) also)
+apart_addressed : (offers : ℕ → Option Candidate) → AreAddressed offers → AreApart offers
+apart_addressed offers all s t c d ne is also same address = ne (sym (by_equation s (offers s) c (all s) is) ∙ address ∙ by_equation t (offers t) d (all t) also)
 
--- where no candidate changes
-pub addressed_as : (old new : ℕ → Prefix → Option Candidate) → AreAddressed old → ((s : ℕ) (p : Prefix) → new s p ≡ old s p) → AreAddressed new
-addressed_as old new all same s p = subst (λ o. IfSome o (λ c. c.address ≡ s)) (sym (same s p)) (all s p)
+kept_case : (f : ℕ → Option Candidate → Option Candidate) → Keeps f → (s : ℕ) (o : Option (Option Candidate)) → IfSome (option_and_then (λ d. d) o) (λ c. c.address ≡ s) → IfSome (option_and_then (λ d. d) (option_map (f s) o)) (λ c. c.address ≡ s)
+kept_case f keeps s None old = tt
+kept_case f keeps s (Some d) old = keeps s d old
 
-choice : (P : Option Candidate → Type 0) (b : Bool) (x y : Option Candidate) → P x → P y → P (cond b x y)
-choice P true x y h k = h
-choice P false x y h k = k
+changed_addressed : (changes : List Change) → Keeps (λ s o. changed changes s o) → (ps : List (ℕ × Option Candidate)) → AreAddressed (candidate_of ps) → AreAddressed (candidate_of (with_changes changes ps))
+changed_addressed changes keeps ps old s =
+    subst (λ o. IfSome (option_and_then (λ d. d) o) (λ c. c.address ≡ s)) (sym (lookup_mapped (changed changes) s ps)) (kept_case (λ t o. changed changes t o) keeps s (lookup (nat_eq s) ps) (old s))
 
--- where those of a prefix do
-pub addressed_kept : (f : ℕ → Option Candidate → Option Candidate) → Keeps f → (old new : ℕ → Prefix → Option Candidate) → AreAddressed old → (prefix : Prefix)
-    → ((s : ℕ) (p : Prefix) → new s p ≡ cond (is_prefix prefix p) (f s (old s p)) (old s p)) → AreAddressed new
-addressed_kept f keeps old new all prefix made s p =
-    subst (λ o. IfSome o (λ c. c.address ≡ s)) (sym (made s p))
-    (choice (λ o. IfSome o (λ c. c.address ≡ s)) (is_prefix prefix p) (f s (old s p)) (old s p) (keeps s (old s p) (all s p)) (all s p))
+pub apart_changed : (changes : List Change) → Keeps (λ s o. changed changes s o) → (k : Kept) → IsSound k → AreApart (candidate_of (with_changes changes k.places))
+apart_changed changes keeps k sound = apart_addressed (candidate_of (with_changes changes k.places)) (changed_addressed changes keeps k.places sound.addressed)
 
--- where some go
-pub addressed_less : (old new : ℕ → Prefix → Option Candidate) → AreAddressed old → (gone : ℕ → Prefix → Bool) → ((s : ℕ) (p : Prefix) → new s p ≡ cond (gone s p) None (old s p)) → AreAddressed new
-addressed_less old new all gone made s p =
-    subst (λ o. IfSome o (λ c. c.address ≡ s)) (sym (made s p)) (choice (λ o. IfSome o (λ c. c.address ≡ s)) (gone s p) None (old s p) tt (all s p))
+-- after the changes
+pub sound_changed : (changes : List Change) → Keeps (λ s o. changed changes s o) → (k w : Kept) → IsSound k → IsKept w → w.places ≡ with_changes changes k.places → IsSound w
+sound_changed changes keeps k w sound kept is = record {
+  kept = kept;
+  addressed = subst (λ ps. AreAddressed (candidate_of ps)) (sym is) (changed_addressed changes keeps k.places sound.addressed);
+}
+
+-- with a place more, where there was room
+pub sound_added : (ok : Bool) (slot : ℕ) (k w : Kept) → IsSound k → w.places ≡ cond (ok && not (is_placed k.places slot)) (k.places ++ (slot, None) ∷ []) k.places → w.best ≡ k.best
+    → (length k.places ≤ 65 → length w.places ≤ 65) → IsSound w
+sound_added ok slot k w sound is best few = record {
+  kept = kept_added ok slot k w sound.kept is best few;
+  addressed = λ s. subst (λ o. IfSome o (λ c. c.address ≡ s)) (sym (ap (λ ps. candidate_of ps s) is ∙ added_case (ok && not (is_placed k.places slot)) slot k.places s)) (sound.addressed s);
+}
+
+none_alone : (b : Bool) → option_and_then (λ (d : Option Candidate). d) (cond b (Some None) None) ≡ None
+none_alone true = refl
+none_alone false = refl
+
+-- with one place
+pub sound_alone : (slot : ℕ) (k : Kept) → k ≡ alone slot → IsSound k
+sound_alone slot k is = subst IsSound (sym is) (record {
+  kept = kept_alone slot;
+  addressed = λ s. subst (λ o. IfSome o (λ c. c.address ≡ s)) (sym (none_alone (nat_eq s slot))) tt;
+})
+
+left_case : (s : ℕ) (b : Bool) (o : Option Candidate) → IfSome o (λ c. c.address ≡ s) → IfSome (cond b None o) (λ c. c.address ≡ s)
+left_case s true o old = tt
+left_case s false o old = old
+
+-- where a slot has left
+pub sound_left : (slot : ℕ) (k w : Kept) → IsSound k → IsKept w → w.places ≡ without_slot slot k.places → IsSound w
+sound_left slot k w sound kept is = record {
+  kept = kept;
+  addressed = λ s. subst (λ o. IfSome o (λ c. c.address ≡ s)) (sym (ap (λ ps. candidate_of ps s) is ∙ candidate_without slot s k.places)) (left_case s (nat_eq s slot) (candidate_of k.places s) (sound.addressed s));
+}
 
 -- of one change, and of two
 pub one_all : (P : Change → Type 0) (change : Change) → P change → All P (change ∷ [])
@@ -72,23 +100,6 @@ one_all P change h = All-cons P change [] h (All-nil P)
 
 pub two_all : (P : Change → Type 0) (first second : Change) → P first → P second → All P (first ∷ second ∷ [])
 two_all P first second h k = All-cons P first (second ∷ []) h (one_all P second k)
-
-same_true : (a b c old : Bool) → a ≡ true → b ≡ true → c ≡ true → cond (a && (b && c)) true old ≡ true
-same_true true true true old x y z = refl
-same_true true true false old x y z = cc
-same_true true false c old x y z = cc
-same_true false b c old x y z = cc
-
-number_itself : (s : ℕ) → nat_eq s s ≡ true
-number_itself s = grind (arith, nat_tests)
-
--- a place that was made is there, and stays
-pub place_made : (made placed old : Bool) (slot : ℕ) (p : Prefix) → made ≡ true → placed ≡ cond (made && (nat_eq slot slot && is_prefix p p)) true old → placed ≡ true
-place_made made placed old slot p ok is = is ∙ same_true made (nat_eq slot slot) (is_prefix p p) old ok (number_itself slot) (ap is_eq (cmp_same p))
-
-pub place_stays : (b placed old : Bool) → placed ≡ cond b true old → old ≡ true → placed ≡ true
-place_stays true placed old is there = is
-place_stays false placed old is there = is ∙ there
 
 -- ---- candidates whose addresses rise
 

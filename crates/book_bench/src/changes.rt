@@ -1,74 +1,101 @@
 //! Candidates that come, change and go.
-ghost use Rattle.std.specs.Prelude.{◌≡◌};
-ghost use Rattle.book_bench.specs.Addressed.{AreAddressed, IsOwn};
-ghost use Rattle.decision.specs.BookContents.{offer_at};
+ghost use Rattle.std.specs.Prelude.{◌≡◌, All, IfOk};
+ghost use Rattle.book_bench.specs.Addressed.{IsOwn, IsSound};
 
 use crate::books::offer;
 use crate::plan::{Plan, What};
 use bgp_attr::Origin;
 use decision::{Book, Candidate, Change, Meter};
-use net_prefix::{Asn, Prefix};
+use net_prefix::Asn;
 use origin_valid::Validity;
 use std::alloc::{AllocError, Allocator, Global};
 
-// Stands where a number makes no prefix.
-const NO_PREFIX: Prefix = Prefix { bits: 0, len: 0 };
-
 /// Makes the changes of the plan, and counts how often a best route was chosen in them.
 pub fn measure<B: Book<Global>>(alloc: Global, plan: &Plan) -> Result<u64, AllocError> {
-    let mut book = B::empty(alloc)?;
+    let mut books: Vec<B> = Vec::new(alloc);
     let mut meter = Meter::new();
-    fill(&mut book, &mut meter, plan)?;
+    fill(&alloc, &mut books, &mut meter, plan)?;
     let filled = meter.count();
-    change(&mut book, &mut meter, plan)?;
+    change(&mut books, &mut meter, plan)?;
     Ok(meter.count().saturating_sub(filled))
 }
 
-// Offers the candidates of each prefix.
+// Adds a book for each prefix.
 pub(crate) fn fill<A: Allocator + Clone, B: Book<A>>(
-    book: &mut B,
+    alloc: &A,
+    books: &mut Vec<B, A>,
     meter: &mut Meter,
     plan: &Plan,
 ) -> Result<(), AllocError>
-    requires { AreAddressed (offer_at (B.kept book.old)) }
-    ensures { AreAddressed (offer_at (B.kept book.new)) }
+    requires { All (λ b. IsSound (B.kept b)) books.old.items }
+    ensures { All (λ b. IsSound (B.kept b)) books.new.items }
 {
-    for index in 0..plan.prefixes {
-        offer_all(book, meter, plan, prefix_of(index))?;
+    for _prefix in 0..plan.prefixes {
+        let book = filled(alloc, meter, plan)?;
+        books.push(book)?;
     }
     Ok(())
+}
+
+// A book with the candidates.
+fn filled<A: Allocator + Clone, B: Book<A>>(
+    alloc: &A,
+    meter: &mut Meter,
+    plan: &Plan,
+) -> Result<B, AllocError>
+    ensures { IfOk result (λ book. IsSound (B.kept book)) }
+{
+    let mut book = B::of(alloc, 0)?;
+    offer_all(&mut book, meter, plan)?;
+    Ok(book)
 }
 
 fn offer_all<A: Allocator + Clone, B: Book<A>>(
     book: &mut B,
     meter: &mut Meter,
     plan: &Plan,
-    prefix: Prefix,
 ) -> Result<(), AllocError>
-    requires { AreAddressed (offer_at (B.kept book.old)) }
-    ensures { AreAddressed (offer_at (B.kept book.new)) }
+    requires { IsSound (B.kept book.old) }
+    ensures { IsSound (B.kept book.new) }
 {
     for slot in 0..plan.candidates {
-        offer(book, meter, prefix, comes(plan, slot, 0))?;
+        offer(book, meter, comes(plan, slot, 0))?;
     }
     Ok(())
 }
 
 // Makes the changes, from prefix to prefix.
 pub(crate) fn change<A: Allocator + Clone, B: Book<A>>(
-    book: &mut B,
+    books: &mut Vec<B, A>,
     meter: &mut Meter,
     plan: &Plan,
 ) -> Result<(), AllocError>
-    requires { AreAddressed (offer_at (B.kept book.old)) }
-    ensures { AreAddressed (offer_at (B.kept book.new)) }
+    requires { All (λ b. IsSound (B.kept b)) books.old.items }
+    ensures { All (λ b. IsSound (B.kept b)) books.new.items }
 {
     for turn in 0..plan.changes {
-        let prefix = prefix_of(turn.checked_rem(plan.prefixes).unwrap_or(0));
+        let prefix = turn.checked_rem(plan.prefixes).unwrap_or(0);
         let round = turn.checked_div(plan.prefixes).unwrap_or(0);
-        offer(book, meter, prefix, change_of(plan, round))?;
+        offer_at(books, prefix as usize, meter, change_of(plan, round))?;
     }
     Ok(())
+}
+
+// Makes a change in the book of the prefix with this index.
+fn offer_at<A: Allocator + Clone, B: Book<A>>(
+    books: &mut Vec<B, A>,
+    index: usize,
+    meter: &mut Meter,
+    change: Change,
+) -> Result<(), AllocError>
+    requires sound { All (λ b. IsSound (B.kept b)) books.old.items }
+    requires own { IsOwn change }
+    ensures { All (λ b. IsSound (B.kept b)) books.new.items }
+{
+    let Some(book) = books.get_mut(index) else {
+        return Ok(());
+    };
+    offer(book, meter, change)
 }
 
 // What changes in this round.
@@ -118,9 +145,4 @@ fn comes(plan: &Plan, slot: u8, med: u32) -> Change
         slot,
         candidate: Some(candidate),
     }
-}
-
-// The prefix of this index.
-pub(crate) fn prefix_of(index: u32) -> Prefix {
-    Prefix::new((index & 0x00ff_ffff) << 8, 24).unwrap_or(NO_PREFIX)
 }

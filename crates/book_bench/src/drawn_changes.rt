@@ -1,13 +1,10 @@
 //! Changes that are drawn, over both books and the selection anew.
-ghost use Rattle.book_bench.specs.Addressed.{AreAddressed, IsOwn};
-ghost use Rattle.decision.specs.BookContents.{offer_at};
+ghost use Rattle.book_bench.specs.Addressed.{IsOwn, IsSound};
 
 use crate::books::offer;
-use crate::changes::prefix_of;
 use crate::drawn::{Generator, draw};
 use crate::given::{Given, leave, live_book, offer_two, plain_book};
 use decision::{Book, Change};
-use net_prefix::Prefix;
 use std::alloc::{Allocator, Global};
 use std::process::Abort;
 
@@ -35,17 +32,16 @@ fn comes<A: Allocator + Clone, P: Book<A>, L: Book<A>>(
     plain: &mut P,
     live: &mut L,
     given: &mut Given,
-    prefix: Prefix,
     change: Change,
 )
-    requires plain { AreAddressed (offer_at (P.kept plain.old)) }
-    requires live { AreAddressed (offer_at (L.kept live.old)) }
+    requires plain { IsSound (P.kept plain.old) }
+    requires live { IsSound (L.kept live.old) }
     requires own { IsOwn change }
-    ensures plain { AreAddressed (offer_at (P.kept plain.new)) }
-    ensures live { AreAddressed (offer_at (L.kept live.new)) }
+    ensures plain { IsSound (P.kept plain.new) }
+    ensures live { IsSound (L.kept live.new) }
 {
-    assert!(rt; offer(plain, &mut given.plain, prefix, change).is_ok());
-    assert!(rt; offer(live, &mut given.live, prefix, change).is_ok());
+    assert!(rt; offer(plain, &mut given.plain, change).is_ok());
+    assert!(rt; offer(live, &mut given.live, change).is_ok());
     given.note(change);
 }
 
@@ -55,18 +51,17 @@ fn both_come<A: Allocator + Clone, P: Book<A>, L: Book<A>>(
     plain: &mut P,
     live: &mut L,
     given: &mut Given,
-    prefix: Prefix,
     changes: (Change, Change),
 )
-    requires plain { AreAddressed (offer_at (P.kept plain.old)) }
-    requires live { AreAddressed (offer_at (L.kept live.old)) }
+    requires plain { IsSound (P.kept plain.old) }
+    requires live { IsSound (L.kept live.old) }
     requires first { IsOwn changes.0 }
     requires second { IsOwn changes.1 }
-    ensures plain { AreAddressed (offer_at (P.kept plain.new)) }
-    ensures live { AreAddressed (offer_at (L.kept live.new)) }
+    ensures plain { IsSound (P.kept plain.new) }
+    ensures live { IsSound (L.kept live.new) }
 {
-    assert!(rt; offer_two(plain, &mut given.plain, prefix, changes.0, changes.1).is_ok());
-    assert!(rt; offer_two(live, &mut given.live, prefix, changes.0, changes.1).is_ok());
+    assert!(rt; offer_two(plain, &mut given.plain, changes.0, changes.1).is_ok());
+    assert!(rt; offer_two(live, &mut given.live, changes.0, changes.1).is_ok());
     given.note(changes.0);
     given.note(changes.1);
 }
@@ -76,16 +71,15 @@ fn leaves<A: Allocator + Clone, P: Book<A>, L: Book<A>>(
     plain: &mut P,
     live: &mut L,
     given: &mut Given,
-    prefix: Prefix,
     slot: u8,
 )
-    requires plain { AreAddressed (offer_at (P.kept plain.old)) }
-    requires live { AreAddressed (offer_at (L.kept live.old)) }
-    ensures plain { AreAddressed (offer_at (P.kept plain.new)) }
-    ensures live { AreAddressed (offer_at (L.kept live.new)) }
+    requires plain { IsSound (P.kept plain.old) }
+    requires live { IsSound (L.kept live.old) }
+    ensures plain { IsSound (P.kept plain.new) }
+    ensures live { IsSound (L.kept live.new) }
 {
-    leave(plain, &mut given.plain, prefix, slot);
-    leave(live, &mut given.live, prefix, slot);
+    leave(plain, &mut given.plain, slot);
+    leave(live, &mut given.live, slot);
     given.note(Change {
         slot,
         candidate: None,
@@ -99,26 +93,25 @@ fn turn<A: Allocator + Clone, P: Book<A>, L: Book<A>>(
     plain: &mut P,
     live: &mut L,
     given: &mut Given,
-    prefix: Prefix,
     slots: u8,
 )
-    requires plain { AreAddressed (offer_at (P.kept plain.old)) }
-    requires live { AreAddressed (offer_at (L.kept live.old)) }
-    ensures plain { AreAddressed (offer_at (P.kept plain.new)) }
-    ensures live { AreAddressed (offer_at (L.kept live.new)) }
+    requires plain { IsSound (P.kept plain.old) }
+    requires live { IsSound (L.kept live.old) }
+    ensures plain { IsSound (P.kept plain.new) }
+    ensures live { IsSound (L.kept live.new) }
 {
     let change = drawn_change(generator, slots);
     match generator.below(16) {
-        0 => leaves(plain, live, given, prefix, change.slot),
+        0 => leaves(plain, live, given, change.slot),
         1 | 2 => {
             let other = drawn_change(generator, slots);
-            both_come(rt, plain, live, given, prefix, (change, other));
+            both_come(rt, plain, live, given, (change, other));
         }
         3 => {
-            comes(rt, plain, live, given, prefix, change);
-            comes(rt, plain, live, given, prefix, change);
+            comes(rt, plain, live, given, change);
+            comes(rt, plain, live, given, change);
         }
-        _ => comes(rt, plain, live, given, prefix, change),
+        _ => comes(rt, plain, live, given, change),
     }
 }
 
@@ -130,19 +123,18 @@ fn turns<A: Allocator + Clone, P: Book<A>, L: Book<A>>(
     slots: u8,
     calls: u32,
 )
-    requires plain { AreAddressed (offer_at (P.kept plain.old)) }
-    requires live { AreAddressed (offer_at (L.kept live.old)) }
+    requires plain { IsSound (P.kept plain.old) }
+    requires live { IsSound (L.kept live.old) }
 {
-    let prefix = prefix_of(0);
     let mut generator = Generator::new();
     let mut given = Given::new();
     for _call in 0..calls {
-        turn(rt, &mut generator, plain, live, &mut given, prefix, slots);
-        assert!(rt; given.agrees(plain.best(prefix), live.best(prefix)));
+        turn(rt, &mut generator, plain, live, &mut given, slots);
+        assert!(rt; given.agrees(plain.best(), live.best()));
     }
 }
 
-// These calls over two empty books.
+// These calls over two books without a candidate.
 fn run(rt: &impl Abort, alloc: Global, slots: u8, calls: u32) {
     let mut plain = plain_book(rt, alloc);
     let mut live = live_book(rt, alloc);

@@ -1,31 +1,29 @@
 //! Both books side by side, and the candidates that they were given.
 ghost use Rattle.std.specs.Prelude.{◌≡◌, IfSome};
-ghost use Rattle.book_bench.specs.Addressed.{AreAddressed, IsOwn};
-ghost use Rattle.decision.specs.BookContents.{offer_at};
+ghost use Rattle.book_bench.specs.Addressed.{IsOwn, IsSound};
 ghost use Rattle.decision.specs.Selection.{AreDistinct};
 
 use arrayvec::ArrayVec;
 use decision::{Book, Candidate, Change, Meter, PlainBook, choose};
 use live_book::LiveBook;
-use net_prefix::Prefix;
 use std::alloc::{AllocError, Allocator};
 use std::process::Abort;
 
-/// An empty book.
+/// A book without a candidate.
 pub fn plain_book<A: Allocator + Clone>(rt: &impl Abort, alloc: A) -> PlainBook<A>
-    ensures { AreAddressed (offer_at result) }
+    ensures { IsSound result }
 {
-    match PlainBook::empty(alloc) {
+    match PlainBook::of(&alloc, 0) {
         Ok(book) => book,
         Err(_) => panic!(rt; "no memory"),
     }
 }
 
-/// An empty book that keeps the best of each neighbor AS.
+/// A book without a candidate that keeps the best of each neighbor AS.
 pub fn live_book<A: Allocator + Clone>(rt: &impl Abort, alloc: A) -> LiveBook<A>
-    ensures { AreAddressed (offer_at result) }
+    ensures { IsSound result }
 {
-    match LiveBook::empty(alloc) {
+    match LiveBook::of(&alloc, 0) {
         Ok(book) => book,
         Err(_) => panic!(rt; "no memory"),
     }
@@ -91,30 +89,24 @@ fn candidates(offers: &[Option<Candidate>; 64]) -> ArrayVec<Candidate, 64>
 pub fn offer_two<A: Allocator + Clone, B: Book<A>>(
     book: &mut B,
     meter: &mut Meter,
-    prefix: Prefix,
     first: Change,
     second: Change,
 ) -> Result<(), AllocError>
-    requires addressed { AreAddressed (offer_at (B.kept book.old)) }
+    requires addressed { IsSound (B.kept book.old) }
     requires first { IsOwn first }
     requires second { IsOwn second }
-    ensures { AreAddressed (offer_at (B.kept book.new)) }
+    ensures { IsSound (B.kept book.new) }
 {
-    book.room(first.slot, prefix)?;
-    book.room(second.slot, prefix)?;
-    book.change(meter, prefix, &[first, second]);
+    book.add(first.slot)?;
+    book.add(second.slot)?;
+    book.change(meter, &[first, second]);
     Ok(())
 }
 
 /// The slot leaves the prefix.
-pub fn leave<A: Allocator + Clone, B: Book<A>>(
-    book: &mut B,
-    meter: &mut Meter,
-    prefix: Prefix,
-    slot: u8,
-)
-    requires { AreAddressed (offer_at (B.kept book.old)) }
-    ensures { AreAddressed (offer_at (B.kept book.new)) }
+pub fn leave<A: Allocator + Clone, B: Book<A>>(book: &mut B, meter: &mut Meter, slot: u8)
+    requires { IsSound (B.kept book.old) }
+    ensures { IsSound (B.kept book.new) }
 {
-    book.leave(meter, slot, prefix);
+    book.leave(meter, slot);
 }

@@ -2,7 +2,7 @@
 //! of both books side by side and of the selection anew, in which one chooses what the others do.
 //!
 //! `book_bench BOOK PREFIXES CANDIDATES NEIGHBORS WHAT CHANGES`: so many candidates, by so many neighbor ASes in turn, are
-//! offered to a `plain` or a `live` book at each of the prefixes. Then the `best` or the `worst` candidate of a prefix goes
+//! offered to a `plain` or a `live` book for each of the prefixes. Then the `best` or the `worst` candidate of a prefix goes
 //! and comes, or the `med` of the best changes, as often as it is told, from prefix to prefix. It prints how often a best
 //! route was chosen. Exit status 0; 1 where the words are wrong, also where a prefix would have more candidates than slots; 2
 //! where memory is wanting or standard output fails.

@@ -1,14 +1,12 @@
 //! Three routes of which each beats one other: the best one changes where another one is withdrawn.
 ghost use Rattle.std.specs.Prelude.{◌≡◌};
-ghost use Rattle.book_bench.specs.Addressed.{AreAddressed, IsOwn};
-ghost use Rattle.decision.specs.BookContents.{offer_at};
+ghost use Rattle.book_bench.specs.Addressed.{IsOwn, IsSound};
 
 use crate::books::offer;
-use crate::changes::prefix_of;
 use crate::given::{live_book, plain_book};
 use bgp_attr::Origin;
 use decision::{Book, Candidate, Change, Meter};
-use net_prefix::{Asn, Prefix};
+use net_prefix::Asn;
 use origin_valid::Validity;
 use std::alloc::Allocator;
 use std::process::Abort;
@@ -37,17 +35,16 @@ fn route(slot: u8, neighbor: u32, med: Option<u32>, identifier: u32) -> Candidat
 fn turns<A: Allocator + Clone, B: Book<A>>(
     rt: &impl Abort,
     book: &mut B,
-    prefix: Prefix,
     change: Change,
     best: Option<u8>,
 )
-    requires addressed { AreAddressed (offer_at (B.kept book.old)) }
+    requires addressed { IsSound (B.kept book.old) }
     requires own { IsOwn change }
-    ensures { AreAddressed (offer_at (B.kept book.new)) }
+    ensures { IsSound (B.kept book.new) }
 {
     let mut meter = Meter::new();
-    assert!(rt; offer(book, &mut meter, prefix, change).is_ok());
-    let slot = match book.best(prefix) {
+    assert!(rt; offer(book, &mut meter, change).is_ok());
+    let slot = match book.best() {
         Some(best) => Some(best.slot),
         None => None,
     };
@@ -78,25 +75,24 @@ fn goes(slot: u8) -> Change
 // A and B by one neighbor AS, where B has the lower MED, and C by another one. By the identifiers A comes before C and C
 // before B.
 fn turn_by_turn<A: Allocator + Clone, B: Book<A>>(rt: &impl Abort, book: &mut B)
-    requires { AreAddressed (offer_at (B.kept book.old)) }
+    requires { IsSound (B.kept book.old) }
 {
-    let prefix = prefix_of(0);
-    turns(rt, book, prefix, comes(3, 65002, None, 2), Some(3));
-    turns(rt, book, prefix, comes(1, 65001, Some(20), 1), Some(1));
-    turns(rt, book, prefix, comes(2, 65001, Some(10), 3), Some(3));
+    turns(rt, book, comes(3, 65002, None, 2), Some(3));
+    turns(rt, book, comes(1, 65001, Some(20), 1), Some(1));
+    turns(rt, book, comes(2, 65001, Some(10), 3), Some(3));
 
     // B, which wasn't the best, goes and comes again.
-    turns(rt, book, prefix, goes(2), Some(1));
-    turns(rt, book, prefix, comes(2, 65001, Some(10), 3), Some(3));
+    turns(rt, book, goes(2), Some(1));
+    turns(rt, book, comes(2, 65001, Some(10), 3), Some(3));
 
     // A missing MED counts as 0, so A is left of its neighbor AS then.
-    turns(rt, book, prefix, comes(1, 65001, None, 1), Some(1));
-    turns(rt, book, prefix, comes(1, 65001, Some(20), 1), Some(3));
+    turns(rt, book, comes(1, 65001, None, 1), Some(1));
+    turns(rt, book, comes(1, 65001, Some(20), 1), Some(3));
 
     // C goes, which was the best.
-    turns(rt, book, prefix, goes(3), Some(2));
-    turns(rt, book, prefix, goes(2), Some(1));
-    turns(rt, book, prefix, goes(1), None);
+    turns(rt, book, goes(3), Some(2));
+    turns(rt, book, goes(2), Some(1));
+    turns(rt, book, goes(1), None);
 }
 
 #[test]

@@ -4,4 +4,4 @@ pub mod Laws
 pub mod SameMembers
 pub mod PlaceLists
 pub mod BestPlaces
-pub mod BookRows
+pub mod NewPlaces

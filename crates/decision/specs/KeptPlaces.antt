@@ -1,4 +1,4 @@
--- How a plain book keeps the places of each prefix.
+-- The places of a prefix, as books keep them.
 use Rattle.std.specs.Prelude.{ℕ, ◌≡◌, ◌≢◌, ◌≤◌, not, nat_eq, Option, Some, None, List, [], length, map, filter, filter_map, All, MatchOption, ◌∷◌, if◌then◌else◌}
 use Rattle.std.specs.List.{IsDistinct}
 use Rattle.std.specs.List.Sorted.{IsStrictlySortedBy}

@@ -3,9 +3,9 @@
 //! `choose` answers the one candidate that the selection leaves: those of the greatest degree of preference, then
 //! step by step those that no other one left beats. MED is compared within a neighbor AS alone, so the best one isn't
 //! found by comparing two at a time. `one_best` says that candidates which differ in degree or address always leave
-//! one. A `Book` keeps the candidates of each prefix by slot and the best of each prefix, and chooses again where one
-//! of them changes; `PlainBook` does so among all candidates of the prefix. A slot's place at a prefix takes memory,
-//! and no other call does. The policies, and what makes a route a candidate, stand above.
+//! one. A `Book` keeps the candidates of one prefix by slot, and the best of them; where one of them changes it
+//! chooses again. `PlainBook` does so among all candidates. A slot's place takes memory, and no other call does.
+//! The policies, and what makes a route a candidate, stand above.
 #![tactic(auto)]
 
 mod book;

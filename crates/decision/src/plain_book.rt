@@ -1,130 +1,88 @@
-//! A book that chooses again among all candidates of a prefix.
-ghost use Rattle.std.specs.Prelude.{◌≡◌, None, Some, OnErr, OnOk, slice_get};
-ghost use Rattle.std.specs.BTreeMap.{is_at};
-ghost use Rattle.std.specs.List.Sorted.{IsStrictlySortedBy};
-ghost use Rattle.std.specs.Map.{keys_of, remove_entry};
-ghost use Rattle.decision.specs.KeptPlaces.{Puts, alone};
-ghost use Rattle.decision.specs.BookContents.{candidate_of, is_placed, kept_at, places_at, rows_of};
-ghost use Rattle.net_prefix.specs.PrefixOrder.{prefix_cmp};
+//! A book that chooses again among all candidates.
+ghost use Rattle.std.specs.Prelude.{◌≡◌, ◌≤◌, ◌+◌, ◌-◌, ◌^◌, min};
+ghost use Rattle.decision.specs.KeptPlaces.{ArePlaces, IsBestAt};
 
 use crate::book::{Book, Change};
 use crate::candidate::Candidate;
 use crate::meter::Meter;
-use crate::places::Places;
-use net_prefix::Prefix;
+use crate::places::{
+    Place, add_place, are_idle, candidate_at, candidates, is_count, make, remove_place,
+};
+use crate::selection::choose;
 use std::alloc::{AllocError, Allocator, Global};
-use std::collections::{BTreeMap, btree_map};
 use std::marker::Model;
-use std::ops::Bound;
 
-/// A book that keeps the places of each prefix that has one, and chooses among all of a prefix's candidates where one
-/// of them changes.
+/// A book that keeps the slots that have a place, with their candidates, and the slot of the best one. It chooses among
+/// all candidates where one of them changes.
 #[derive(Drop)]
 pub struct PlainBook<A: Allocator = Global> {
-    alloc: A,
-    prefixes: BTreeMap<Prefix, Places<A>, A>,
+    places: Vec<Place, A>,
+    best: Option<u8>,
 }
 
 impl<A: Allocator> Model for PlainBook<A> {
-    ghost use Rattle.std.specs.Prelude.{List};
-    ghost use Rattle.decision.specs.KeptPlaces.{IsBook};
-    ghost use Rattle.decision.specs.BookContents.{Kept};
-    ghost use Rattle.net_prefix.specs.declared.prefix.Prefix.{Prefix};
+    ghost use Rattle.std.specs.Prelude.{option_and_then};
+    ghost use Rattle.decision.specs.BookContents.{Kept, candidate_of};
 
-    ghost Value = { List (Prefix × Kept) };
+    ghost Value = { Kept };
 
-    ghost view = { λ b. b.prefixes.entries };
-
-    ghost invariant = { λ b. IsBook b.prefixes.entries };
+    ghost view = { λ b. record { places = b.places.items; best = option_and_then (candidate_of b.places.items) b.best } };
 }
 
-impl<A: Allocator + Clone> PlainBook<A> {
-    // Begins to keep a prefix at which the slot has a place.
-    fn add_prefix(&mut self, slot: u8, prefix: Prefix) -> Result<(), AllocError>
-        requires { kept_at self.old prefix ≡ None }
-        ensures ok { OnOk result (Puts self.old self.new prefix (Some (alone slot))) }
-        ensures err { OnErr result (self.new ≡ self.old) }
-        ensures rows { rows_of self.new ≡ rows_of self.old }
+impl<A: Allocator> PlainBook<A> {
+    // Chooses among the candidates.
+    fn choose_again(&mut self, meter: &mut Meter)
+        requires { ArePlaces self.old.places }
+        ensures places { self.new.places ≡ self.old.places }
+        ensures best { IsBestAt self.new.places self.new.best }
+        ensures counted { (meter.old.count ≤ meter.new.count) × (meter.new.count ≤ meter.old.count + 1) }
+        ensures chosen { meter.new.count ≡ min (meter.old.count + 1) (2 ^ 64 - 1) }
     {
-        let places = Places::of(self.alloc.clone()?, slot)?;
-        match self.prefixes.insert(prefix, places) {
-            Ok(_) => Ok(()),
-            Err(_) => Err(AllocError),
-        }
+        is_count(meter.count);
+        let candidates = candidates(&self.places);
+        self.best = match choose(meter, &candidates) {
+            Some(best) => Some(best.slot),
+            None => None,
+        };
     }
-}
-
-// Keeps the prefix no longer.
-fn forget<A: Allocator>(prefixes: &mut BTreeMap<Prefix, Places<A>, A>, prefix: Prefix)
-    ensures entries { prefixes.new.entries ≡ remove_entry (is_at (prefix_cmp prefix)) prefixes.old.entries }
-    ensures gone { Puts prefixes.old.entries prefixes.new.entries prefix None }
-    ensures rising { IsStrictlySortedBy prefix_cmp (keys_of prefixes.new.entries) }
-{
-    prefixes.remove(&prefix);
-}
-
-// The first row of a range.
-fn first_row<A: Allocator>(
-    range: btree_map::Range<'_, Prefix, Places<A>>,
-) -> Option<(Prefix, Candidate)>
-    ensures { result ≡ slice_get (rows_of range.entry) 0 }
-{
-    for (prefix, places) in range {
-        if let Some(best) = places.best() {
-            return Some((*prefix, best));
-        }
-    }
-    None
 }
 
 impl<A: Allocator + Clone> Book<A> for PlainBook<A> {
     ghost kept = { λ book. book };
 
-    fn empty(alloc: A) -> Result<Self, AllocError> {
-        let prefixes = BTreeMap::new(alloc.clone()?);
-        Ok(PlainBook { alloc, prefixes })
+    fn of(alloc: &A, slot: u8) -> Result<Self, AllocError> {
+        let mut places = Vec::new(alloc.clone()?);
+        places.reserve_exact(1)?;
+        places.push_reserved((slot, None));
+        Ok(PlainBook { places, best: None })
     }
 
-    fn room(&mut self, slot: u8, prefix: Prefix) -> Result<(), AllocError> {
-        match self.prefixes.get_mut(&prefix) {
-            Some(places) => places.add(slot),
-            None => self.add_prefix(slot, prefix),
-        }
+    fn add(&mut self, slot: u8) -> Result<(), AllocError> {
+        add_place(&mut self.places, slot)?;
+        Ok(())
     }
 
-    fn change(&mut self, meter: &mut Meter, prefix: Prefix, changes: &[Change]) {
-        let Some(places) = self.prefixes.get_mut(&prefix) else {
+    fn change(&mut self, meter: &mut Meter, changes: &[Change]) {
+        if are_idle(changes, &self.places) {
             return;
-        };
-        places.change(meter, changes);
-    }
-
-    fn leave(&mut self, meter: &mut Meter, slot: u8, prefix: Prefix) {
-        let Some(places) = self.prefixes.get_mut(&prefix) else {
-            return;
-        };
-        if places.leave(meter, slot) {
-            forget(&mut self.prefixes, prefix);
         }
+        make(changes, &mut self.places);
+        self.choose_again(meter);
     }
 
-    fn best(&self, prefix: Prefix) -> Option<Candidate> {
-        match self.prefixes.get(&prefix) {
-            Some(places) => places.best(),
+    fn leave(&mut self, meter: &mut Meter, slot: u8) -> bool {
+        let gone = candidate_at(&self.places, slot);
+        remove_place(&mut self.places, slot);
+        if gone.is_some() {
+            self.choose_again(meter);
+        }
+        self.places.is_empty()
+    }
+
+    fn best(&self) -> Option<Candidate> {
+        match self.best {
+            Some(slot) => candidate_at(&self.places, slot),
             None => None,
-        }
-    }
-
-    fn row_after(&self, after: Option<Prefix>) -> Option<(Prefix, Candidate)> {
-        match after {
-            Some(prefix) => first_row(
-                self.prefixes
-                    .range((Bound::Excluded(prefix), Bound::Unbounded)),
-            ),
-            None => {
-                let all: (Bound<Prefix>, Bound<Prefix>) = (Bound::Unbounded, Bound::Unbounded);
-                first_row(self.prefixes.range(all))
-            }
         }
     }
 }

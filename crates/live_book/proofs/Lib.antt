@@ -3,5 +3,4 @@ pub mod PlaceBests
 pub mod Moves
 pub mod Rounds
 pub mod Leaving
-pub mod Rooms
 pub mod Alone

@@ -1,5 +1,5 @@
-//! A book that compares few candidates at a change: for each prefix it keeps the best one of each neighbor AS, and of
-//! these the best one.
+//! A book that compares few candidates at a change: of a prefix it keeps the best one of each neighbor AS, and of these
+//! the best one.
 //!
 //! The selection (RFC 4271 section 9.1.2.2) isn't an order of routes: step (c) compares MULTI_EXIT_DISC within a neighbor
 //! AS alone. Say that A and B came by one neighbor AS, A with MED 20 and identifier 1, B with MED 10 and identifier 3, and

@@ -7,7 +7,6 @@ use Rattle.net_prefix.specs.PrefixOrder.{prefix_cmp}
 use Rattle.net_prefix.specs.declared.prefix.Prefix.{Prefix}
 use Rattle.rib_in.proofs.SlotWalks.{other_route}
 use Rattle.rib_in.specs.LatestRoutes.{RouteTable, is_route, route_at}
-use Rattle.loc_rib.specs.RibTables.{AreRoomy}
 
 -- The candidates of a slot whose session has ended.
 
@@ -35,7 +34,3 @@ offers_gone slot adj_in old now routed kept none s p =
           ap (λ x. offer_at now x p) same ∙ nothing ∙ sym (ap (λ b. cond b None (offer_at old s p)) (eq-eqb s slot same))
       | inr other ↦ kept s p other ∙ sym (ap (λ b. cond b None (offer_at old s p)) (ne_eqb s slot other))
     ]
-
-pub offers_dropped : (slot : ℕ) (adj_in : RouteTable) (old now : BookState) → AreRoomy adj_in now → KeepsOthers slot old now → ((p : Prefix) → route_at adj_in slot p ≡ None)
-    → (s : ℕ) (p : Prefix) → offer_at now s p ≡ cond (s == slot) None (offer_at old s p)
-offers_dropped slot adj_in old now roomy kept none = offers_gone slot adj_in old now roomy.routed kept none

@@ -1,4 +1,6 @@
-pub mod BookRooms
 pub mod EndedCounts
 pub mod EndedSlots
+pub mod RowFinds
+pub mod RowSteps
+pub mod RowTables
 pub mod RowWalks

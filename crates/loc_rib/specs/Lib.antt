@@ -1,1 +1,2 @@
+pub mod PrefixRows
 pub mod RibTables

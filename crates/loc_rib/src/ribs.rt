@@ -1,43 +1,52 @@
 //! Adj-RIB-In and Loc-RIB (RFC 4271 section 3.2): the peers' latest routes, the candidates that they make, and the best
 //! route of each prefix.
-ghost use Rattle.std.specs.Prelude.{◌≡◌, ◌≢◌, ◌==◌, ℕ, false, All, IfOk, OnOk, OnErr, None, Some, length, if◌then◌else◌};
+ghost use Rattle.std.specs.Prelude.{◌≡◌, ◌≢◌, ◌==◌, ℕ, false, All, IfOk, MatchBool, OnOk, OnErr, None, Some, length, if◌then◌else◌};
 ghost use Rattle.std.specs.List.Sorted.{IsStrictlySortedBy};
-ghost use Rattle.std.specs.Map.{keys_of};
-ghost use Rattle.std.specs.Option.{IfNone, IfSome, IsSome};
+ghost use Rattle.std.specs.Map.{keys_of, lookup};
+ghost use Rattle.std.specs.Option.{IfNone, IfSome, IsSome, option_copied};
 ghost use Rattle.std.specs.Ordering.{is_gt};
-ghost use Rattle.decision.specs.BookContents.{AreApart, IsBestOf, best_at, changed, is_prefix, kept_at, offer_at, rows_of};
+ghost use Rattle.std.specs.declared.cmp.Ordering.TheVariants.{Less};
+ghost use Rattle.decision.specs.BookContents.{AreApart, IsBestOf, best_at, changed, first_after, is_prefix, kept_at, offer_at, rows_of};
 ghost use Rattle.decision.specs.declared.candidate.Candidate.{Candidate as TheCandidate};
 ghost use Rattle.net_prefix.specs.PrefixOrder.{IsAbove, prefix_cmp};
 ghost use Rattle.net_prefix.specs.declared.prefix.Prefix.{Prefix as ThePrefix};
 ghost use Rattle.rib_in.specs.LatestRoutes.{HasRoute, is_route, route_at, routes_of};
-ghost use Rattle.prefix_trie.specs.TrieWalks.{all_after};
+ghost use Rattle.prefix_trie.specs.TrieMap.{IsRising};
+ghost use Rattle.prefix_trie.specs.TrieWalks.{IsNext, all_after};
 ghost use Rattle.loc_rib.specs.RibTables.{CountsAnother, RisesBy, started};
 
+use crate::row_map::{
+    RowMap, announce_in, bring_in, change_in, first_best, first_of_slot, withdraw_in,
+};
 use crate::rows::Rows;
+use crate::slot_routes::SlotRoutes;
 use bgp_attr::Attrs;
 use decision::{Book, Candidate, Change, Meter};
 use net_prefix::Prefix;
-use rib_in::AdjIn;
 use std::alloc::{AllocError, Allocator};
+use std::collections::BTreeMap;
 use std::marker::Model;
+use std::ops::Bound;
 use std::rc::Rc;
 
 /// The routes that came, the candidates that they make, and the best of each prefix.
 #[derive(Drop)]
 pub struct Ribs<A: Allocator + Clone, B: Book<A>> {
-    adj_in: AdjIn<A>,
-    pub(crate) book: B,
+    rows: RowMap<A, B>,
+    // Of the rows, and of the routes to one prefix but the first.
+    alloc: A,
     meter: Meter,
 }
 
 impl<A: Allocator + Clone, B: Book<A>> Model for Ribs<A, B> {
-    ghost use Rattle.loc_rib.specs.RibTables.{RibTables, AreRoomy};
+    ghost use Rattle.loc_rib.specs.PrefixRows.{AreRows, adj_in_of, book_of};
+    ghost use Rattle.loc_rib.specs.RibTables.{RibTables};
 
     ghost Value = { RibTables };
 
-    ghost view = { λ r. record { adj_in = r.adj_in; book = B.kept r.book; chosen = r.meter.count } };
+    ghost view = { λ r. record { adj_in = adj_in_of r.rows.entries; book = book_of r.rows.entries; chosen = r.meter.count } };
 
-    ghost invariant = { λ r. AreRoomy r.adj_in (B.kept r.book) };
+    ghost invariant = { λ r. AreRows r.rows.entries };
 }
 
 impl<A: Allocator + Clone, B: Book<A>> Ribs<A, B> {
@@ -45,11 +54,10 @@ impl<A: Allocator + Clone, B: Book<A>> Ribs<A, B> {
     pub fn new(alloc: A) -> Result<Self, AllocError>
         ensures { IfOk result (λ ribs. ribs ≡ started) }
     {
-        let adj_in = AdjIn::new(alloc.clone()?)?;
-        let book = B::empty(alloc)?;
+        let rows = BTreeMap::new(alloc.clone()?);
         Ok(Ribs {
-            adj_in,
-            book,
+            rows,
+            alloc,
             meter: Meter::new(),
         })
     }
@@ -77,16 +85,15 @@ impl<A: Allocator + Clone, B: Book<A>> Ribs<A, B> {
         ensures same { offer_at self.old.book slot prefix ≡ candidate → self.new.chosen ≡ self.old.chosen }
         ensures refused { OnErr result (self.new.chosen ≡ self.old.chosen) }
     {
-        if self.adj_in.announce(slot, prefix, attrs).is_err() {
-            return Err(AllocError);
-        }
-        if self.book.room(slot, prefix).is_err() {
-            AdjIn::withdraw(&mut self.adj_in, slot, prefix);
-            return Err(AllocError);
-        }
-        let change = Change { slot, candidate };
-        self.book.change(&mut self.meter, prefix, &[change]);
-        Ok(())
+        announce_in(
+            &mut self.rows,
+            &self.alloc,
+            &mut self.meter,
+            slot,
+            prefix,
+            attrs,
+            candidate,
+        )
     }
 
     /// A slot without a route to the prefix has this one from now on, which makes no candidate yet. Where memory is refused,
@@ -105,14 +112,7 @@ impl<A: Allocator + Clone, B: Book<A>> Ribs<A, B> {
         ensures other { IfSome (best_at (rows_of self.old.book) prefix) (λ c. c.slot ≢ slot) }
         ensures chosen { self.new.chosen ≡ self.old.chosen }
     {
-        if self.adj_in.announce(slot, prefix, attrs).is_err() {
-            return Err(AllocError);
-        }
-        if self.book.room(slot, prefix).is_err() {
-            AdjIn::withdraw(&mut self.adj_in, slot, prefix);
-            return Err(AllocError);
-        }
-        Ok(())
+        bring_in(&mut self.rows, &self.alloc, slot, prefix, attrs)
     }
 
     /// The slot has no route to the prefix any more.
@@ -128,8 +128,7 @@ impl<A: Allocator + Clone, B: Book<A>> Ribs<A, B> {
         ensures unrouted { route_at self.old.adj_in slot prefix ≡ None → self.new.chosen ≡ self.old.chosen }
         ensures never { offer_at self.old.book slot prefix ≡ None → self.new.chosen ≡ self.old.chosen }
     {
-        self.adj_in.withdraw(slot, prefix);
-        self.book.leave(&mut self.meter, slot, prefix);
+        withdraw_in(&mut self.rows, &mut self.meter, slot, prefix);
     }
 
     /// The slot's session has ended: none of its routes is kept.
@@ -140,10 +139,11 @@ impl<A: Allocator + Clone, B: Book<A>> Ribs<A, B> {
         ensures chosen { RisesBy (length (routes_of slot self.old.adj_in)) self.old self.new }
     {
         let mut after = None;
-        while let Some(prefix) = self.adj_in.slot_prefix_after(slot, after) {
+        while let Some(prefix) = self.slot_prefix_after(slot, after) {
             self.withdraw(slot, prefix);
             after = Some(prefix);
         }
+        self.is_chosen();
     }
 
     /// Changes candidates of routes to a prefix, and chooses its best one again where one of them is another now.
@@ -158,22 +158,140 @@ impl<A: Allocator + Clone, B: Book<A>> Ribs<A, B> {
         ensures another { CountsAnother prefix self.old self.new }
         ensures same { ((s : ℕ) → changed changes.now s (offer_at self.old.book s prefix) ≡ offer_at self.old.book s prefix) → self.new.chosen ≡ self.old.chosen }
     {
-        self.book.change(&mut self.meter, prefix, changes);
+        change_in(&mut self.rows, &mut self.meter, prefix, changes);
     }
 
-    /// The latest route of each slot and prefix. A candidate is always one of a route.
-    pub fn routes(&self) -> &AdjIn<A>
-        ensures all { result.now ≡ self.now.adj_in }
+    /// The attributes of the latest route of the slot to the prefix.
+    pub fn route(&self, slot: u8, prefix: Prefix) -> Option<&Attrs<A>>
+        ensures route { option_copied result ≡ route_at self.now.adj_in slot prefix }
+        // A candidate is always one of a route.
         ensures routed { (s : ℕ) (p : ThePrefix) → IsSome (offer_at self.now.book s p) → IsSome (route_at self.now.adj_in s p) }
     {
-        &self.adj_in
+        match self.rows.get(&prefix) {
+            Some(row) => row.get(slot),
+            None => None,
+        }
+    }
+
+    /// Whether some slot has a route to the prefix.
+    pub fn is_routed(&self, prefix: Prefix) -> bool
+        ensures { MatchBool result (HasRoute self.now.adj_in prefix) ((s : ℕ) → route_at self.now.adj_in s prefix ≡ None) }
+    {
+        self.rows.get(&prefix).is_some()
+    }
+
+    /// The least prefix above the given one to which a slot has a route, or the least of all.
+    pub fn routed_after(&self, after: Option<Prefix>) -> Option<Prefix>
+        ensures has { IfSome result (λ p. HasRoute self.now.adj_in p) }
+        ensures above { IfSome result (λ p. IsAbove after p) }
+        ensures least { IfSome result (λ p. (s : ℕ) (q : ThePrefix) → IsAbove after q → IsSome (route_at self.now.adj_in s q) → is_gt (prefix_cmp p q) ≡ false) }
+        ensures none { IfNone result ((s : ℕ) (q : ThePrefix) → IsAbove after q → route_at self.now.adj_in s q ≡ None) }
+    {
+        match after {
+            Some(prefix) => self.routed_above(prefix),
+            None => self.first_routed(),
+        }
+    }
+
+    fn routed_above(&self, after: Prefix) -> Option<Prefix>
+        ensures has { IfSome result (λ p. HasRoute self.now.adj_in p) }
+        ensures above { IfSome result (λ p. prefix_cmp after p ≡ Less) }
+        ensures least { IfSome result (λ p. (s : ℕ) (q : ThePrefix) → prefix_cmp after q ≡ Less → IsSome (route_at self.now.adj_in s q) → is_gt (prefix_cmp p q) ≡ false) }
+        ensures none { IfNone result ((s : ℕ) (q : ThePrefix) → prefix_cmp after q ≡ Less → route_at self.now.adj_in s q ≡ None) }
+    {
+        let mut above = self.rows.range((Bound::Excluded(after), Bound::Unbounded));
+        match above.next() {
+            Some((prefix, _)) => Some(*prefix),
+            None => None,
+        }
+    }
+
+    fn first_routed(&self) -> Option<Prefix>
+        ensures has { IfSome result (λ p. HasRoute self.now.adj_in p) }
+        ensures least { IfSome result (λ p. (s : ℕ) (q : ThePrefix) → IsSome (route_at self.now.adj_in s q) → is_gt (prefix_cmp p q) ≡ false) }
+        ensures none { IfNone result ((s : ℕ) (q : ThePrefix) → route_at self.now.adj_in s q ≡ None) }
+    {
+        match self.rows.first_key_value() {
+            Some((prefix, _)) => Some(*prefix),
+            None => None,
+        }
+    }
+
+    /// The least prefix above the given one, or of all, to which the slot has a route. It is found by going along the
+    /// prefixes, as far as the next one of the slot.
+    pub fn slot_prefix_after(&self, slot: u8, after: Option<Prefix>) -> Option<Prefix>
+        ensures has { IfSome result (λ p. IsSome (route_at self.now.adj_in slot p)) }
+        ensures above { IfSome result (λ p. IsAbove after p) }
+        ensures least { IfSome result (λ p. (q : ThePrefix) → IsAbove after q → IsSome (route_at self.now.adj_in slot q) → is_gt (prefix_cmp p q) ≡ false) }
+        ensures none { IfNone result ((q : ThePrefix) → IsAbove after q → route_at self.now.adj_in slot q ≡ None) }
+    {
+        match after {
+            Some(prefix) => first_of_slot(
+                self.rows.range((Bound::Excluded(prefix), Bound::Unbounded)),
+                slot,
+            ),
+            None => {
+                let all: (Bound<Prefix>, Bound<Prefix>) = (Bound::Unbounded, Bound::Unbounded);
+                first_of_slot(self.rows.range(all), slot)
+            }
+        }
+    }
+
+    /// The routes of a slot, in rising order of prefix.
+    pub fn routes_of(&self, slot: u8) -> SlotRoutes<'_, A, B>
+        ensures all { result ≡ routes_of slot self.now.adj_in }
+        ensures rising { IsStrictlySortedBy prefix_cmp (keys_of result) }
+        ensures found { (p : ThePrefix) → lookup (is_prefix p) result ≡ route_at self.now.adj_in slot p }
+    {
+        self.rises();
+        SlotRoutes::behind(self, slot, None)
+    }
+
+    /// The routes of a slot to prefixes above the given one, or all, in rising order of prefix.
+    pub fn routes_after(&self, slot: u8, after: Option<Prefix>) -> SlotRoutes<'_, A, B>
+        ensures all { result ≡ all_after after (routes_of slot self.now.adj_in) }
+        ensures rising { IsStrictlySortedBy prefix_cmp (keys_of result) }
+    {
+        self.rises();
+        SlotRoutes::behind(self, slot, after)
+    }
+
+    /// The slot's route to the least prefix above the given one, or of all, to which it has one.
+    pub(crate) fn route_after(&self, slot: u8, after: Option<Prefix>) -> Option<(Prefix, &Attrs<A>)>
+        ensures { IsNext result after (routes_of slot self.now.adj_in) }
+    {
+        self.rises();
+        let prefix = self.slot_prefix_after(slot, after)?;
+        let attrs = self.route(slot, prefix)?;
+        Some((prefix, attrs))
+    }
+
+    // The prefixes with routes rise.
+    fn rises(&self)
+        ensures { IsRising self.now.adj_in }
+    {
+        self.rows.len();
     }
 
     /// The best route of a prefix.
     pub fn best(&self, prefix: Prefix) -> Option<Candidate>
         ensures { result ≡ best_at (rows_of self.now.book) prefix }
     {
-        self.book.best(prefix)
+        match self.rows.get(&prefix) {
+            Some(row) => row.best(),
+            None => None,
+        }
+    }
+
+    /// The best route of a prefix, with its attributes.
+    pub fn best_route(&self, prefix: Prefix) -> Option<(Candidate, &Attrs<A>)>
+        ensures none { IfNone result (best_at (rows_of self.now.book) prefix ≡ None) }
+        ensures some { IfSome result (λ r. (best_at (rows_of self.now.book) prefix ≡ Some r.0) × (route_at self.now.adj_in r.0.slot prefix ≡ Some r.1.now)) }
+    {
+        match self.rows.get(&prefix) {
+            Some(row) => row.best_route(),
+            None => None,
+        }
     }
 
     /// Loc-RIB has the best of each prefix's candidates, and nothing is kept of a prefix without routes.
@@ -181,8 +299,10 @@ impl<A: Allocator + Clone, B: Book<A>> Ribs<A, B> {
         ensures best { (p : ThePrefix) → IsBestOf (λ s. offer_at self.now.book s p) (best_at (rows_of self.now.book) p) }
         ensures rising { IsStrictlySortedBy prefix_cmp (keys_of (rows_of self.now.book)) }
         ensures needed { (p : ThePrefix) → IsSome (kept_at self.now.book p) → HasRoute self.now.adj_in p }
+        // A candidate is always one of a route.
+        ensures routed { (s : ℕ) (p : ThePrefix) → IsSome (offer_at self.now.book s p) → IsSome (route_at self.now.adj_in s p) }
     {
-        let _ = self.book.best(Prefix { bits: 0, len: 0 });
+        self.rows.len();
     }
 
     /// How often a best route was chosen so far, up to 2^64 - 1.
@@ -201,9 +321,24 @@ impl<A: Allocator + Clone, B: Book<A>> Ribs<A, B> {
         ensures none { IfNone result ((q : ThePrefix) → IsAbove after q → best_at (rows_of self.now.book) q ≡ None) }
     {
         self.is_chosen();
-        match self.book.row_after(after) {
+        match self.row_after(after) {
             Some((prefix, _)) => Some(prefix),
             None => None,
+        }
+    }
+
+    // The least prefix above the given one that has a best route, or the least of all, with it.
+    pub(crate) fn row_after(&self, after: Option<Prefix>) -> Option<(Prefix, Candidate)>
+        ensures { result ≡ first_after after (rows_of self.now.book) }
+    {
+        match after {
+            Some(prefix) => first_best(
+                self.rows.range((Bound::Excluded(prefix), Bound::Unbounded)),
+            ),
+            None => {
+                let all: (Bound<Prefix>, Bound<Prefix>) = (Bound::Unbounded, Bound::Unbounded);
+                first_best(self.rows.range(all))
+            }
         }
     }
 

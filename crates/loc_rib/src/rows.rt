@@ -48,7 +48,7 @@ impl<'a, A: Allocator + Clone, B: Book<A>> Iterator for Rows<'a, A, B> {
     fn next(&mut self) -> Option<(Prefix, Candidate)> {
         let ribs = self.ribs;
         ribs.is_chosen();
-        let row = ribs.book.row_after(self.after);
+        let row = ribs.row_after(self.after);
         if let Some((prefix, _)) = row {
             self.after = Some(prefix);
         }

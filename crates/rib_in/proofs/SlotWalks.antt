@@ -16,7 +16,8 @@ use Rattle.rib_in.proofs.RouteLists.{here, not_at}
 use Rattle.rib_in.proofs.Tables.{no_empty_found}
 use Rattle.rib_in.proofs.Walks.{above_from, is_above}
 
-some_route : (routes : RouteList) → 0 < length routes → (s : ℕ) × IsSome (route_in routes s)
+-- where there are routes, some slot has one
+pub some_route : (routes : RouteList) → 0 < length routes → (s : ℕ) × IsSome (route_in routes s)
 some_route [] h = absurd (omega arith)
 some_route (e ∷ es) h = (e.0, rw (here e.0) refl)
 
@@ -24,7 +25,7 @@ routed_by : (table : RouteTable) (p : Prefix) (o : Option RouteList) → found t
 routed_by table p None is full = λ s. ap (λ o. route_among o s) is
 routed_by table p (Some routes) is full = let s = some_route routes (no_empty_found p routes table full is) in (s.0, rw is s.1)
 
-some_copied : {V : Type 0} (r : Option (Bor V)) → is_some r ≡ is_some (option_copied r)
+pub some_copied : {V : Type 0} (r : Option (Bor V)) → is_some r ≡ is_some (option_copied r)
 some_copied None = refl
 some_copied (Some v) = refl
 
@@ -108,3 +109,7 @@ dropped_case slot s p last old now false is h none = h.others s p (λ e. let yes
 pub dropped : (slot : ℕ) (last : Option Prefix) (old now : RouteTable) → Drops slot last old now → ((q : Prefix) → IsAbove last q → route_at now slot q ≡ None)
     → (s : ℕ) (p : Prefix) → route_at now s p ≡ cond (s == slot) None (route_at old s p)
 dropped slot last old now h none s p = dropped_case slot s p last old now (s == slot) refl h none
+
+-- so that the slot has none
+pub gone_all : (slot : ℕ) (last : Option Prefix) (old now : RouteTable) → Drops slot last old now → ((q : Prefix) → IsAbove last q → route_at now slot q ≡ None) → (p : Prefix) → route_at now slot p ≡ None
+gone_all slot last old now h none p = by_above last p (is_above last p) refl (λ later. none p later) (λ before. h.gone p before)

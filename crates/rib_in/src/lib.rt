@@ -1,17 +1,14 @@
-//! The latest routes that the peers announced: Adj-RIB-In.
+//! The latest routes that the peers announced to one prefix: a row of Adj-RIB-In.
 //!
-//! `AdjIn` keeps the attributes of the latest route of each slot and prefix (RFC 4271 section 3.2): an announcement
-//! replaces the route before it, a withdrawal takes it out, and the end of a session takes out each route of its
-//! slot. Attributes are shared by the routes of one UPDATE. The routes stand in a map by prefix. The routes of one slot
-//! are found by going along the prefixes, those of other slots too. Only `announce` takes memory, and where it gets none
-//! the table stays as it was. Which route is chosen, and whether one is taken at all, is decided above.
+//! `PrefixRoutes` keeps the attributes of the latest route of each slot to a prefix (RFC 4271 section 3.2): an
+//! announcement replaces the slot's route before it, a withdrawal takes it out. There is at least one route; a prefix
+//! whose last route goes is forgotten by the one above who keeps the rows. Attributes are shared by the routes of one
+//! UPDATE. Only a further route takes memory, by `boxed`, before it is put in. What a table of such rows is seen as, the
+//! route of a slot and a prefix and the routes of a slot, is defined here too.
 #![tactic(auto)]
 
-mod adj_in;
 mod fault;
 mod prefix_routes;
-mod slot_routes;
 
-pub use adj_in::AdjIn;
 pub use fault::RibFault;
-pub use slot_routes::SlotRoutes;
+pub use prefix_routes::PrefixRoutes;

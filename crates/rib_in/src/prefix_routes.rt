@@ -1,5 +1,5 @@
 //! The routes to one prefix.
-ghost use Rattle.std.specs.Prelude.{◌≡◌, ◌<◌, [], ◌∷◌, OnErr, IfErr, is_ok};
+ghost use Rattle.std.specs.Prelude.{◌≡◌, ◌<◌, [], ◌∷◌, OnErr, IfErr, IfOk, is_ok};
 ghost use Rattle.std.specs.Option.{option_copied, is_some};
 ghost use Rattle.std.specs.Map.{set_value};
 ghost use Rattle.std.specs.BTreeMap.{is_at};
@@ -7,8 +7,9 @@ ghost use Rattle.std.specs.Ordering.{nat_cmp};
 ghost use Rattle.rib_in.specs.LatestRoutes.{route_in};
 ghost use Rattle.rib_in.specs.PrefixRoutes.{IsLeft, is_next_only, is_only, with_first};
 
+use crate::fault::RibFault;
 use bgp_attr::Attrs;
-use std::alloc::Allocator;
+use std::alloc::{Allocator, Global};
 use std::cmp::Ordering;
 use std::marker::Model;
 use std::mem;
@@ -16,7 +17,7 @@ use std::rc::Rc;
 
 /// The routes to one prefix, in rising order of slot: at least one.
 #[derive(Drop)]
-pub(crate) struct PrefixRoutes<A: Allocator> {
+pub struct PrefixRoutes<A: Allocator = Global> {
     slot: u8,
     // Shared with the other routes of the UPDATE.
     attrs: Rc<Attrs<A>, A>,
@@ -45,7 +46,7 @@ impl<A: Allocator> Model for PrefixRoutes<A> {
 
 impl<A: Allocator> PrefixRoutes<A> {
     /// One route.
-    pub(crate) fn one(slot: u8, attrs: Rc<Attrs<A>, A>) -> Self
+    pub fn one(slot: u8, attrs: Rc<Attrs<A>, A>) -> Self
         ensures { result ≡ (slot, attrs.value) ∷ [] }
     {
         PrefixRoutes {
@@ -55,8 +56,23 @@ impl<A: Allocator> PrefixRoutes<A> {
         }
     }
 
+    /// Takes memory for one route, to be put among others.
+    pub fn boxed(alloc: &A, slot: u8, attrs: Rc<Attrs<A>, A>) -> Result<Box<Self, A>, RibFault>
+    where
+        A: Clone,
+        ensures { IfOk result (λ boxed. boxed.value ≡ (slot, attrs.value) ∷ []) }
+    {
+        match alloc.clone() {
+            Ok(alloc) => match Box::new(alloc, PrefixRoutes::one(slot, attrs)) {
+                Ok(boxed) => Ok(boxed),
+                Err(_) => Err(RibFault::NoMemory),
+            },
+            Err(_) => Err(RibFault::NoMemory),
+        }
+    }
+
     /// The attributes of the slot's route.
-    pub(crate) fn get(&self, slot: u8) -> Option<&Attrs<A>>
+    pub fn get(&self, slot: u8) -> Option<&Attrs<A>>
         ensures { option_copied result ≡ route_in self.now slot }
     {
         if self.slot == slot {
@@ -69,18 +85,14 @@ impl<A: Allocator> PrefixRoutes<A> {
     }
 
     /// Whether no other slot has a route.
-    pub(crate) fn is_only(&self, slot: u8) -> bool
+    pub fn is_only(&self, slot: u8) -> bool
         ensures { result ≡ is_only slot self.now }
     {
         self.slot == slot && self.higher.is_none()
     }
 
     /// Replaces the slot's route. Where it has none the attributes come back.
-    pub(crate) fn replace(
-        &mut self,
-        slot: u8,
-        attrs: Rc<Attrs<A>, A>,
-    ) -> Result<(), Rc<Attrs<A>, A>>
+    pub fn replace(&mut self, slot: u8, attrs: Rc<Attrs<A>, A>) -> Result<(), Rc<Attrs<A>, A>>
         ensures new { self.new ≡ set_value (is_at (nat_cmp slot)) self.old attrs.value }
         ensures err { OnErr result (self.new ≡ self.old) }
         ensures back { IfErr result (λ back. back.value ≡ attrs.value) }
@@ -97,7 +109,7 @@ impl<A: Allocator> PrefixRoutes<A> {
     }
 
     /// Puts the first of some routes in.
-    pub(crate) fn put(&mut self, mut route: Box<PrefixRoutes<A>, A>)
+    pub fn put(&mut self, mut route: Box<PrefixRoutes<A>, A>)
         ensures { self.new ≡ with_first self.old route.value }
     {
         match route.slot.cmp(&self.slot) {
@@ -120,7 +132,7 @@ impl<A: Allocator> PrefixRoutes<A> {
     }
 
     /// Takes out the slot's route, where another slot has one.
-    pub(crate) fn withdraw(&mut self, slot: u8)
+    pub fn withdraw(&mut self, slot: u8)
         ensures { IsLeft slot self.old self.new }
     {
         if self.slot == slot {

@@ -3,28 +3,28 @@ ghost use Rattle.std.specs.Prelude.{OnOk};
 ghost use Rattle.rib_tests.specs.Addressed.{AreAddressed};
 ghost use Rattle.decision.specs.BookContents.{offer_at};
 
-use crate::adj_rib_in::shared;
+use crate::adj_rib_in::{empty_table, shared};
 use crate::books::candidate;
 use bgp_attr::Attrs;
-use decision::{Book, PlainBook};
+use decision::Book;
 use loc_rib::Ribs;
 use net_prefix::Prefix;
-use std::alloc::{AllocError, Allocator, Global};
+use std::alloc::{AllocError, Allocator};
 use std::process::Abort;
 use std::rc::Rc;
 
-// A route of the slot to the prefix comes, and makes a candidate of this degree of preference.
+// A route of the slot to the prefix comes, and makes a candidate of this degree of preference, if there is one.
 fn come<A: Allocator + Clone, B: Book<A>>(
     ribs: &mut Ribs<A, B>,
     attrs: &Rc<Attrs<A>, A>,
     prefix: Prefix,
     slot: u8,
-    degree: u64,
+    degree: Option<u64>,
 ) -> Result<(), AllocError>
     requires { AreAddressed (offer_at ribs.old.book) }
     ensures { OnOk result (AreAddressed (offer_at ribs.new.book)) }
 {
-    ribs.announce(slot, prefix, attrs.clone()?, candidate(slot, Some(degree)))
+    ribs.announce(slot, prefix, attrs.clone()?, candidate(slot, degree))
 }
 
 fn slot_of_best<A: Allocator + Clone, B: Book<A>>(ribs: &Ribs<A, B>, prefix: Prefix) -> Option<u8> {
@@ -46,6 +46,11 @@ fn count_of_rows<A: Allocator + Clone, B: Book<A>>(ribs: &Ribs<A, B>) -> u32 {
 const LOW: Prefix = Prefix {
     bits: 0x0a00_0000,
     len: 16,
+};
+
+const MIDDLE: Prefix = Prefix {
+    bits: 0x0a00_0000,
+    len: 24,
 };
 
 const HIGH: Prefix = Prefix {
@@ -72,13 +77,13 @@ fn takes_routes<A: Allocator + Clone, B: Book<A>>(
 ) -> Result<(), AllocError>
     requires { AreAddressed (offer_at ribs.old.book) }
 {
-    come(ribs, attrs, LOW, 1, 100)?;
-    come(ribs, attrs, LOW, 2, 200)?;
-    come(ribs, attrs, HIGH, 2, 100)?;
+    come(ribs, attrs, LOW, 1, Some(100))?;
+    come(ribs, attrs, LOW, 2, Some(200))?;
+    come(ribs, attrs, HIGH, 2, Some(100))?;
     assert!(rt; shows(ribs, LOW, Some(2), 2, 3) && shows(ribs, HIGH, Some(2), 2, 3));
 
     // The same route again makes the same candidate.
-    come(ribs, attrs, LOW, 2, 200)?;
+    come(ribs, attrs, LOW, 2, Some(200))?;
     assert!(rt; shows(ribs, LOW, Some(2), 2, 3));
     Ok(())
 }
@@ -86,7 +91,7 @@ fn takes_routes<A: Allocator + Clone, B: Book<A>>(
 // Whether the best one is withdrawn, and is no route to withdraw any more then.
 fn withdraws_the_best<A: Allocator + Clone, B: Book<A>>(ribs: &mut Ribs<A, B>) -> bool {
     ribs.withdraw(2, LOW);
-    let is_withdrawn = shows(ribs, LOW, Some(1), 2, 4) && ribs.routes().get(2, LOW).is_none();
+    let is_withdrawn = shows(ribs, LOW, Some(1), 2, 4) && ribs.route(2, LOW).is_none();
     ribs.withdraw(2, LOW);
     is_withdrawn && shows(ribs, LOW, Some(1), 2, 4)
 }
@@ -96,23 +101,69 @@ fn ends_the_sessions<A: Allocator + Clone, B: Book<A>>(ribs: &mut Ribs<A, B>) ->
     ribs.drop_slot(2);
     let is_first = shows(ribs, HIGH, None, 1, 5);
     ribs.drop_slot(1);
-    is_first && shows(ribs, LOW, None, 0, 6) && ribs.routes().prefix_after(None).is_none()
-}
-
-// Without routes.
-fn ribs_of(rt: &impl Abort, alloc: Global) -> Ribs<Global, PlainBook>
-    ensures { AreAddressed (offer_at result.book) }
-{
-    match Ribs::new(alloc) {
-        Ok(ribs) => ribs,
-        Err(_) => panic!(rt; "no memory"),
-    }
+    is_first && shows(ribs, LOW, None, 0, 6) && ribs.routed_after(None).is_none()
 }
 
 #[test]
 fn candidates_go_with_their_routes(rt: HostRuntime) {
     let attrs = shared(&rt, rt.alloc());
-    let mut ribs = ribs_of(&rt, rt.alloc());
+    let mut ribs = empty_table(&rt, rt.alloc());
     assert!(rt; takes_routes(&rt, &mut ribs, &attrs).is_ok());
     assert!(rt; withdraws_the_best(&mut ribs) && ends_the_sessions(&mut ribs));
+}
+
+// Prefixes, and the prefix of the first row of Loc-RIB above each, or of all.
+const ROWS: [(Option<Prefix>, Option<Prefix>); 4] = [
+    (None, Some(LOW)),
+    (Some(LOW), Some(HIGH)),
+    (Some(MIDDLE), Some(HIGH)),
+    (Some(HIGH), None),
+];
+
+// Whether Loc-RIB has those rows.
+fn has_rows<A: Allocator + Clone, B: Book<A>>(ribs: &Ribs<A, B>) -> bool {
+    for (after, prefix) in &ROWS {
+        if ribs.prefix_after(*after) != *prefix {
+            return false;
+        }
+    }
+    true
+}
+
+// Routes of slot 3 to three prefixes come. That to the middle one makes no candidate.
+fn takes_rows<A: Allocator + Clone, B: Book<A>>(
+    ribs: &mut Ribs<A, B>,
+    attrs: &Rc<Attrs<A>, A>,
+) -> Result<(), AllocError>
+    requires { AreAddressed (offer_at ribs.old.book) }
+{
+    come(ribs, attrs, HIGH, 3, Some(100))?;
+    come(ribs, attrs, MIDDLE, 3, None)?;
+    come(ribs, attrs, LOW, 3, Some(100))
+}
+
+// Whether the best route of the prefix is of slot 3, and has its attributes.
+fn has_best_route<A: Allocator + Clone, B: Book<A>>(ribs: &Ribs<A, B>, prefix: Prefix) -> bool {
+    match ribs.best_route(prefix) {
+        Some((best, attrs)) => best.slot == 3 && attrs.next_hop() == Some(0xc000_0201),
+        None => false,
+    }
+}
+
+// Whether a prefix without a best route is there as long as it has a route.
+fn forgets_the_middle<A: Allocator + Clone, B: Book<A>>(ribs: &mut Ribs<A, B>) -> bool {
+    let is_kept = ribs.is_routed(MIDDLE)
+        && ribs.routed_after(Some(LOW)) == Some(MIDDLE)
+        && ribs.best_route(MIDDLE).is_none();
+    ribs.withdraw(3, MIDDLE);
+    is_kept && !ribs.is_routed(MIDDLE) && ribs.routed_after(Some(LOW)) == Some(HIGH)
+}
+
+#[test]
+fn rows_rise_and_a_prefix_goes_with_its_last_route(rt: HostRuntime) {
+    let attrs = shared(&rt, rt.alloc());
+    let mut ribs = empty_table(&rt, rt.alloc());
+    assert!(rt; takes_rows(&mut ribs, &attrs).is_ok() && has_rows(&ribs));
+    assert!(rt; has_best_route(&ribs, LOW) && has_best_route(&ribs, HIGH));
+    assert!(rt; forgets_the_middle(&mut ribs) && has_rows(&ribs) && ribs.chosen() == 2);
 }

@@ -19,7 +19,7 @@ impl<A: Allocator + Clone, B: Book<A>> Routes<A, B> {
     pub fn route(&self, slot: u8, prefix: Prefix) -> Option<&Attrs<A>>
         ensures { option_copied result ≡ route_at self.now.adj_in slot prefix }
     {
-        self.routing.ribs().routes().get(slot, prefix)
+        self.routing.ribs().route(slot, prefix)
     }
 
     /// The candidate that a slot's route to a prefix makes now, if it makes one.
@@ -36,12 +36,11 @@ impl<A: Allocator + Clone, B: Book<A>> Routes<A, B> {
         requires { slot ≤ 64 }
         ensures { IsOffer (tables_in self.now) slot prefix result }
     {
-        let routes = self.routing.ribs().routes();
         match remade_at(
             &self.conf,
             &self.payloads,
             &self.links,
-            routes,
+            self.routing.ribs(),
             slot,
             prefix,
         ) {

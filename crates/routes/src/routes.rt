@@ -28,10 +28,9 @@ ghost use Rattle.routing.specs.Waiting.{waiting_at};
 use bgp_conf::Conf;
 use decision::Book;
 use export_rules::ExportPeer;
-use loc_rib::Rows;
+use loc_rib::{Rows, SlotRoutes};
 use net_prefix::{Asn, Prefix};
 use origin_valid::PayloadTrie;
-use rib_in::SlotRoutes;
 use rib_out::{RecentOctets, UndoLog};
 use routing::{
     Link, Links, Octets, Routing, WaitingPrefixes, choose_touched, export, export_peer, slots_end,
@@ -154,20 +153,20 @@ impl<A: Allocator + Clone, B: Book<A>> Routes<A, B> {
     }
 
     /// The routes of a slot in rising order.
-    pub fn routes_of(&self, slot: u8) -> SlotRoutes<'_, A>
+    pub fn routes_of(&self, slot: u8) -> SlotRoutes<'_, A, B>
         ensures all { result ≡ routes_of slot self.now.adj_in }
         ensures rising { IsStrictlySortedBy prefix_cmp (keys_of result) }
         ensures found { (p : ThePrefix) → lookup (is_prefix p) result ≡ route_at self.now.adj_in slot p }
     {
-        self.routing.ribs().routes().routes_of(slot)
+        self.routing.ribs().routes_of(slot)
     }
 
     /// The routes of a slot to prefixes above the given one, or all, in rising order.
-    pub fn routes_after(&self, slot: u8, after: Option<Prefix>) -> SlotRoutes<'_, A>
+    pub fn routes_after(&self, slot: u8, after: Option<Prefix>) -> SlotRoutes<'_, A, B>
         ensures all { result ≡ all_after after (routes_of slot self.now.adj_in) }
         ensures rising { IsStrictlySortedBy prefix_cmp (keys_of result) }
     {
-        self.routing.ribs().routes().routes_after(slot, after)
+        self.routing.ribs().routes_after(slot, after)
     }
 
     /// How often a best route was chosen so far, up to 2^64 - 1.

@@ -21,10 +21,10 @@ use arrayvec::ArrayVec;
 use bgp_attr::{Attrs, Origin, PeerKind, neighbor_as, origin_as};
 use bgp_conf::{Action, Conf, SeenRoute};
 use decision::{Book, Candidate, Change, LOCAL_SLOT, MAX_CANDIDATES};
+use loc_rib::Ribs;
 use local_exceptions::Filter;
 use net_prefix::{Asn, Prefix, Vrp};
 use origin_valid::{PayloadTrie, Validity, affected, affected_by};
-use rib_in::AdjIn;
 use std::alloc::Allocator;
 use std::collections::BTreeSet;
 use vrp_delta::Delta;
@@ -228,7 +228,7 @@ pub fn choose_again<A: Allocator + Clone, B: Book<A>>(
     ensures rises { routing.old.chosen ≤ routing.new.chosen }
 {
     let mut after = None;
-    while let Some(prefix) = routing.ribs.routes().prefix_after(after) {
+    while let Some(prefix) = routing.ribs.routed_after(after) {
         choose_at(conf, payloads, links, routing, prefix);
         // Places rise, so the walk ends.
         let _place = place(prefix);
@@ -255,7 +255,7 @@ pub fn choose_slot<A: Allocator + Clone, B: Book<A>>(
     ensures rises { routing.old.chosen ≤ routing.new.chosen }
 {
     let mut after = None;
-    while let Some(prefix) = routing.ribs.routes().slot_prefix_after(slot, after) {
+    while let Some(prefix) = routing.ribs.slot_prefix_after(slot, after) {
         choose_at(conf, payloads, links, routing, prefix);
         // Places rise, so the walk ends.
         let _place = place(prefix);
@@ -327,7 +327,7 @@ pub fn choose_within<A: Allocator + Clone, B: Book<A>>(
     ensures rises { routing.old.chosen ≤ routing.new.chosen }
 {
     let mut after = None;
-    while let Some(prefix) = next_within(routing.ribs.routes(), stretch, after) {
+    while let Some(prefix) = next_within(&routing.ribs, stretch, after) {
         choose_at(conf, payloads, links, routing, prefix);
         // Places rise, so the walk ends.
         let _place = place(prefix);
@@ -336,33 +336,33 @@ pub fn choose_within<A: Allocator + Clone, B: Book<A>>(
 }
 
 // The next prefix with a route that this one covers: behind the given one, or the first.
-fn next_within<A: Allocator + Clone>(
-    routes: &AdjIn<A>,
+fn next_within<A: Allocator + Clone, B: Book<A>>(
+    ribs: &Ribs<A, B>,
     stretch: Prefix,
     after: Option<Prefix>,
 ) -> Option<Prefix>
     requires { IfSome after (λ p. covers stretch p ≡ true) }
-    ensures { IsNextWithin routes.now stretch after result }
+    ensures { IsNextWithin ribs.now.adj_in stretch after result }
 {
     let Some(after) = after else {
-        if routes.is_routed(stretch) {
+        if ribs.is_routed(stretch) {
             return Some(stretch);
         }
-        return next_behind(routes, stretch, stretch);
+        return next_behind(ribs, stretch, stretch);
     };
-    next_behind(routes, stretch, after)
+    next_behind(ribs, stretch, after)
 }
 
 // The next prefix with a route behind the given one, where the stretch covers it.
-fn next_behind<A: Allocator + Clone>(
-    routes: &AdjIn<A>,
+fn next_behind<A: Allocator + Clone, B: Book<A>>(
+    ribs: &Ribs<A, B>,
     stretch: Prefix,
     after: Prefix,
 ) -> Option<Prefix>
     requires { covers stretch after ≡ true }
-    ensures { IsNextWithin routes.now stretch (Some after) result }
+    ensures { IsNextWithin ribs.now.adj_in stretch (Some after) result }
 {
-    let Some(prefix) = routes.prefix_after(Some(after)) else {
+    let Some(prefix) = ribs.routed_after(Some(after)) else {
         return None;
     };
     if stretch.covers(&prefix) {
@@ -390,23 +390,23 @@ fn choose_at<A: Allocator + Clone, B: Book<A>>(
     ensures chosen { routing.new.chosen ≤ routing.old.chosen + 1 }
     ensures rises { routing.old.chosen ≤ routing.new.chosen }
 {
-    let changes = remade(conf, payloads, links, routing.ribs.routes(), prefix);
+    let changes = remade(conf, payloads, links, &routing.ribs, prefix);
     routing.change(conf, links, prefix, changes.as_slice());
 }
 
 // The candidates that the slots' routes to a prefix make now, and a local network: a change for each.
-fn remade<A: Allocator + Clone>(
+fn remade<A: Allocator + Clone, B: Book<A>>(
     conf: &Conf<A>,
     payloads: &PayloadTrie<A>,
     links: &Links<A>,
-    adj_in: &AdjIn<A>,
+    ribs: &Ribs<A, B>,
     prefix: Prefix,
 ) -> Changes
-    ensures { AreRemade (tables conf.now (payloads_under conf.now payloads.now) links.now.entries adj_in.now) prefix result.items }
+    ensures { AreRemade (tables conf.now (payloads_under conf.now payloads.now) links.now.entries ribs.now.adj_in) prefix result.items }
 {
     let mut changes = Changes::new();
     for slot in 0..LOCAL_SLOT + 1 {
-        if let Some(change) = remade_at(conf, payloads, links, adj_in, slot, prefix) {
+        if let Some(change) = remade_at(conf, payloads, links, ribs, slot, prefix) {
             changes.push(change);
         }
     }
@@ -414,33 +414,33 @@ fn remade<A: Allocator + Clone>(
 }
 
 /// The candidate that a slot's route to a prefix makes now, or a local network, if there is one.
-pub fn remade_at<A: Allocator + Clone>(
+pub fn remade_at<A: Allocator + Clone, B: Book<A>>(
     conf: &Conf<A>,
     payloads: &PayloadTrie<A>,
     links: &Links<A>,
-    adj_in: &AdjIn<A>,
+    ribs: &Ribs<A, B>,
     slot: u8,
     prefix: Prefix,
 ) -> Option<Change>
     requires { slot ≤ 64 }
-    ensures { MatchOption result (LacksRoute (tables conf.now (payloads_under conf.now payloads.now) links.now.entries adj_in.now) slot prefix) (IsRemade (tables conf.now (payloads_under conf.now payloads.now) links.now.entries adj_in.now) slot prefix) }
+    ensures { MatchOption result (LacksRoute (tables conf.now (payloads_under conf.now payloads.now) links.now.entries ribs.now.adj_in) slot prefix) (IsRemade (tables conf.now (payloads_under conf.now payloads.now) links.now.entries ribs.now.adj_in) slot prefix) }
 {
     if slot == LOCAL_SLOT {
-        return remade_network(conf, payloads, adj_in, prefix);
+        return remade_network(conf, payloads, ribs, prefix);
     }
-    remade_route(conf, payloads, links, adj_in, slot, prefix)
+    remade_route(conf, payloads, links, ribs, slot, prefix)
 }
 
 // The candidate that a local network makes now, where the prefix is one.
-fn remade_network<A: Allocator + Clone>(
+fn remade_network<A: Allocator + Clone, B: Book<A>>(
     conf: &Conf<A>,
     payloads: &PayloadTrie<A>,
-    adj_in: &AdjIn<A>,
+    ribs: &Ribs<A, B>,
     prefix: Prefix,
 ) -> Option<Change>
-    ensures { result ≡ option_map (λ attrs. record { slot = 64; candidate = Some (network_at conf.now.own (payloads_under conf.now payloads.now) attrs prefix) }) (route_at adj_in.now 64 prefix) }
+    ensures { result ≡ option_map (λ attrs. record { slot = 64; candidate = Some (network_at conf.now.own (payloads_under conf.now payloads.now) attrs prefix) }) (route_at ribs.now.adj_in 64 prefix) }
 {
-    let attrs = adj_in.get(LOCAL_SLOT, prefix)?;
+    let attrs = ribs.route(LOCAL_SLOT, prefix)?;
     Some(Change {
         slot: LOCAL_SLOT,
         candidate: Some(judge_network(conf, payloads, prefix, attrs)),
@@ -448,19 +448,19 @@ fn remade_network<A: Allocator + Clone>(
 }
 
 // The candidate that the route of a slot's peer makes now, if it has one.
-fn remade_route<A: Allocator + Clone>(
+fn remade_route<A: Allocator + Clone, B: Book<A>>(
     conf: &Conf<A>,
     payloads: &PayloadTrie<A>,
     links: &Links<A>,
-    adj_in: &AdjIn<A>,
+    ribs: &Ribs<A, B>,
     slot: u8,
     prefix: Prefix,
 ) -> Option<Change>
     requires { slot < 64 }
-    ensures { MatchOption result (LacksRoute (tables conf.now (payloads_under conf.now payloads.now) links.now.entries adj_in.now) slot prefix) (IsRemade (tables conf.now (payloads_under conf.now payloads.now) links.now.entries adj_in.now) slot prefix) }
+    ensures { MatchOption result (LacksRoute (tables conf.now (payloads_under conf.now payloads.now) links.now.entries ribs.now.adj_in) slot prefix) (IsRemade (tables conf.now (payloads_under conf.now payloads.now) links.now.entries ribs.now.adj_in) slot prefix) }
 {
     let link = links.get(&slot)?;
-    let attrs = adj_in.get(slot, prefix)?;
+    let attrs = ribs.route(slot, prefix)?;
     let candidate = candidate(conf, slot, link.peer.identifier(), attrs);
     Some(Change {
         slot,

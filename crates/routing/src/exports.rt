@@ -61,8 +61,7 @@ pub fn chosen_route<A: Allocator + Clone, B: Book<A>>(
 ) -> Option<Chosen<'_, A>>
     ensures { result ≡ chosen_in (best_at (rows_of ribs.now.book)) ribs.now.adj_in prefix }
 {
-    let candidate = ribs.best(prefix)?;
-    let attrs = ribs.routes().get(candidate.slot, prefix)?;
+    let (candidate, attrs) = ribs.best_route(prefix)?;
     Some(Chosen { candidate, attrs })
 }
 

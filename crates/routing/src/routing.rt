@@ -139,7 +139,7 @@ impl<A: Allocator + Clone, B: Book<A>> Routing<A, B> {
         ensures rises { self.old.chosen ≤ self.new.chosen }
         ensures marked { AreMarked conf.now links.now.entries self.new }
     {
-        if self.ribs.routes().get(slot, prefix).is_none() {
+        if self.ribs.route(slot, prefix).is_none() {
             return;
         }
         self.unlist(conf, links, prefix);
@@ -158,12 +158,14 @@ impl<A: Allocator + Clone, B: Book<A>> Routing<A, B> {
         ensures marked { AreMarked conf.now links.now.entries self.new }
     {
         let mut after = None;
-        while let Some(prefix) = self.ribs.routes().slot_prefix_after(slot, after) {
+        while let Some(prefix) = self.ribs.slot_prefix_after(slot, after) {
             self.withdraw(conf, links, slot, prefix);
             // Places rise, so the walk ends.
             let _place = place(prefix);
             after = Some(prefix);
         }
+        // No candidate is left without a route.
+        self.ribs.is_chosen();
     }
 
     /// Changes candidates of routes to a prefix, and chooses its best one again.

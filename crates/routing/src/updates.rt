@@ -228,7 +228,7 @@ fn bring<A: Allocator + Clone, B: Book<A>>(
     ensures refused { OnErr result ((first : RoutingState) (seen : List ThePrefix) → IsBrought slot attrs.now.value seen named.old.items first routing.old → IsPartial slot named.new.items first routing.new) }
 {
     let attrs = attrs.clone()?;
-    if routing.ribs().routes().get(slot, prefix).is_some() {
+    if routing.ribs().route(slot, prefix).is_some() {
         let replacing = Some(attrs);
         named.push(Announced { prefix, replacing })?;
         return Ok(());

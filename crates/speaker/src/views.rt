@@ -30,10 +30,9 @@ use bgp_attr::Attrs;
 use bgp_fsm::State;
 use decision::{Book, LOCAL_SLOT};
 use live_book::LiveBook;
-use loc_rib::Rows;
+use loc_rib::{Rows, SlotRoutes};
 use net_prefix::{Prefix, Transport, Vrp};
 use origin_valid::Validity;
-use rib_in::SlotRoutes;
 use routing::WaitingPrefixes;
 use rtr_client::ClientState;
 use std::alloc::{Allocator, Global};
@@ -85,11 +84,11 @@ impl<A: Allocator + Clone, B: Book<A>> Iterator for LocRib<'_, A, B> {
 
 /// The routes that a slot's peer has announced and not taken back, in rising order: each prefix with its attributes.
 #[derive(Drop)]
-pub struct AdjRibIn<'a, A: Allocator = Global> {
-    pub(crate) routes: Option<SlotRoutes<'a, A>>,
+pub struct AdjRibIn<'a, A: Allocator + Clone = Global, B: Book<A> = LiveBook<A>> {
+    pub(crate) routes: Option<SlotRoutes<'a, A, B>>,
 }
 
-impl<'a, A: Allocator> Model for AdjRibIn<'a, A> {
+impl<'a, A: Allocator + Clone, B: Book<A>> Model for AdjRibIn<'a, A, B> {
     ghost use Rattle.std.specs.Prelude.{List, [], unwrap_or};
     ghost use Rattle.bgp_attr.specs.PathAttributes.{PathAttributes};
     ghost use Rattle.net_prefix.specs.declared.prefix.Prefix.{Prefix};
@@ -99,7 +98,7 @@ impl<'a, A: Allocator> Model for AdjRibIn<'a, A> {
     ghost view = { λ routes. unwrap_or routes.routes [] };
 }
 
-impl<'a, A: Allocator> Iterator for AdjRibIn<'a, A> {
+impl<'a, A: Allocator + Clone, B: Book<A>> Iterator for AdjRibIn<'a, A, B> {
     type Item = (Prefix, &'a Attrs<A>);
 
     ghost next_gives = { YieldsFirstBy (λ item. (item.0, item.1.now)) (λ rest. rest) };
@@ -261,7 +260,7 @@ impl<A: Allocator + Clone, B: Book<A>> Speaker<A, B> {
 
     /// The routes that a slot's peer has announced and not taken back, in rising order; none where the slot
     /// isn't configured.
-    pub fn adj_in(&self, slot: u8) -> AdjRibIn<'_, A>
+    pub fn adj_in(&self, slot: u8) -> AdjRibIn<'_, A, B>
         // Each prefix once.
         ensures rising { IsStrictlySortedBy prefix_cmp (keys_of result) }
         ensures kept { result ≡ received_by slot self.now.adj_in }
@@ -271,7 +270,7 @@ impl<A: Allocator + Clone, B: Book<A>> Speaker<A, B> {
     }
 
     // No local network came from a peer.
-    fn received_rows(&self, slot: u8) -> AdjRibIn<'_, A>
+    fn received_rows(&self, slot: u8) -> AdjRibIn<'_, A, B>
         ensures all { result ≡ received_by slot self.now.adj_in }
         ensures rising { IsStrictlySortedBy prefix_cmp (keys_of result) }
         ensures found { (p : ThePrefix) → lookup (is_prefix p) result ≡ peer_route_at self.now.adj_in slot p }

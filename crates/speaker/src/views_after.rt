@@ -33,7 +33,7 @@ impl<A: Allocator + Clone, B: Book<A>> Speaker<A, B> {
 
     /// The routes that a slot's peer has announced and not taken back, to prefixes above the given one or all, in rising
     /// order; none where the slot isn't configured.
-    pub fn adj_in_after(&self, slot: u8, after: Option<Prefix>) -> AdjRibIn<'_, A>
+    pub fn adj_in_after(&self, slot: u8, after: Option<Prefix>) -> AdjRibIn<'_, A, B>
         // Each prefix once.
         ensures rising { IsStrictlySortedBy prefix_cmp (keys_of result) }
         ensures kept { result ≡ all_after after (received_by slot self.now.adj_in) }

@@ -1,6 +1,6 @@
-use Rattle.book_bench.specs.Addressed.{AreAddressed}
-use Rattle.decision.specs.BookContents.{offer_at}
+use Rattle.std.proofs.Common.{All}
+use Rattle.book_bench.specs.Addressed.{IsSound}
 use Rattle.book_bench.proofs.changes.fill.Given as goal
 
-abbrev pub invariant-loop-index : goal.invariant-loop-index
-invariant-loop-index g l = AreAddressed (offer_at (g.B.Book.kept l.book))
+abbrev pub invariant-loop-prefix : goal.invariant-loop-prefix
+invariant-loop-prefix g l = All (λ b. IsSound (g.B.Book.kept b)) l.books.items

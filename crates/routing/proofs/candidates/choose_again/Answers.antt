@@ -12,7 +12,7 @@ pub loop-prefix-preserved : goal.loop-prefix-preserved
 loop-prefix-preserved g c =
     let h = c.loop-prefix.invariant in
     let below = rw c.place-place.ensures.place at c.place-place.ensures.below in
-    let walked : c.routes.result.now ≡ c.args.routing.now.adj_in = c.routes.ensures.all ∙ ap (λ (t : RoutingState). t.adj_in) c.routing.view_is ∙ h.1 in
+    let walked : c.routing.inside.ribs.adj_in ≡ c.args.routing.now.adj_in = ap (λ (t : RoutingState). t.adj_in) c.routing.view_is ∙ h.1 in
     let least = rw walked at c.in-Some.ensures.least in
     let made = rw h.1 at c.choose_at.ensures.made in
     let has : HasRoute c.args.routing.now.adj_in c.in-Some.prefix = subst (λ t. HasRoute t c.in-Some.prefix) walked c.in-Some.ensures.has in (

@@ -3,4 +3,4 @@ use Rattle.routing.proofs.RemadeOffers.{RemadeBelow}
 use Rattle.routing.proofs.candidates.remade.Given as goal
 
 abbrev pub invariant-loop-slot : goal.invariant-loop-slot
-invariant-loop-slot g l = RemadeBelow (tables l.fn.conf (payloads_under l.fn.conf l.fn.payloads) l.fn.links.entries l.fn.adj_in) l.fn.prefix l.slot l.changes.items
+invariant-loop-slot g l = RemadeBelow (tables l.fn.conf (payloads_under l.fn.conf l.fn.payloads) l.fn.links.entries l.fn.ribs.adj_in) l.fn.prefix l.slot l.changes.items

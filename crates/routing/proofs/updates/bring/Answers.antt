@@ -18,16 +18,16 @@ returns-in_err-push-clause-refused g c =
 
 pub returns-then-is_some-clause-brought : goal.returns-then-is_some-clause-brought
 returns-then-is_some-clause-brought g c = λ first seen h.
-    let found = c.get.ensures ∙ ap (λ t. route_at t c.args.slot c.args.prefix) (c.routes.ensures.all ∙ ap (λ t. t.adj_in) c.ribs.ensures) in
-    let there : IsSome (route_at c.args.routing.now.adj_in c.args.slot c.args.prefix) = some_copied c.get.result _ (sym c.if-is_some.ensures) found in
+    let found = c.route.ensures.route ∙ ap (λ t. route_at t.adj_in c.args.slot c.args.prefix) c.ribs.ensures in
+    let there : IsSome (route_at c.args.routing.now.adj_in c.args.slot c.args.prefix) = some_copied c.route.result _ (sym c.if-is_some.ensures) found in
     subst (λ items. IsBrought c.args.slot c.args.attrs.now.value (seen ++ c.args.prefix ∷ []) items first c.args.routing.now) (sym c.in_ok-push.ensures.items)
     (brought_old c.args.slot c.args.attrs.now.value seen c.args.named.now.items first c.args.routing.now (record { prefix = c.args.prefix; replacing = Some c.in_ok-attrs.attrs.value }) c.in_ok-attrs.attrs.value refl c.in_ok-attrs.ensures.cases there h)
 
 pub returns-clause-brought : goal.returns-clause-brought
 returns-clause-brought g c =
-    let found = c.get.ensures ∙ ap (λ t. route_at t c.args.slot c.args.prefix) (c.routes.ensures.all ∙ ap (λ t. t.adj_in) c.ribs.ensures) in
-    let none : route_at c.args.routing.now.adj_in c.args.slot c.args.prefix ≡ None = none_copied c.get.result _ (sym c.if-is_some.ensures) found in
-    let routed = rw c.ribs.ensures at c.routes.ensures.routed in
+    let found = c.route.ensures.route ∙ ap (λ t. route_at t.adj_in c.args.slot c.args.prefix) c.ribs.ensures in
+    let none : route_at c.args.routing.now.adj_in c.args.slot c.args.prefix ≡ None = none_copied c.route.result _ (sym c.if-is_some.ensures) found in
+    let routed = rw c.ribs.ensures at c.route.ensures.routed in
     let offer : offer_at c.args.routing.now.book c.args.slot c.args.prefix ≡ None = none_if _ (λ some. no_none _ none (routed c.args.slot c.args.prefix some)) in
     OnOk-as c.bring.result _ _ (λ come first seen h.
     subst (λ items. IsBrought c.args.slot c.args.attrs.now.value (seen ++ c.args.prefix ∷ []) items first c.bring.new.self) (sym c.in_ok-push-2.ensures.items)
@@ -37,9 +37,9 @@ returns-clause-brought g c =
 
 pub returns-clause-refused : goal.returns-clause-refused
 returns-clause-refused g c =
-    let found = c.get.ensures ∙ ap (λ t. route_at t c.args.slot c.args.prefix) (c.routes.ensures.all ∙ ap (λ t. t.adj_in) c.ribs.ensures) in
-    let none : route_at c.args.routing.now.adj_in c.args.slot c.args.prefix ≡ None = none_copied c.get.result _ (sym c.if-is_some.ensures) found in
-    let routed = rw c.ribs.ensures at c.routes.ensures.routed in
+    let found = c.route.ensures.route ∙ ap (λ t. route_at t.adj_in c.args.slot c.args.prefix) c.ribs.ensures in
+    let none : route_at c.args.routing.now.adj_in c.args.slot c.args.prefix ≡ None = none_copied c.route.result _ (sym c.if-is_some.ensures) found in
+    let routed = rw c.ribs.ensures at c.route.ensures.routed in
     let offer : offer_at c.args.routing.now.book c.args.slot c.args.prefix ≡ None = none_if _ (λ some. no_none _ none (routed c.args.slot c.args.prefix some)) in
     OnErr-as c.bring.result _ _ (λ same first seen h.
     subst (λ items. IsPartial c.args.slot items first c.bring.new.self) (sym c.in_ok-push-2.ensures.items)

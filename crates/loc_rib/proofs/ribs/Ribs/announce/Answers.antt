@@ -1,25 +1,52 @@
-use Rattle.std.proofs.Common.{is_ok}
-use Rattle.loc_rib.proofs.BookRooms.{apart_same, no_route_yet, not_ok, on_ok, roomy_announced, room_made, roomy_back, routes_back}
+use Rattle.std.proofs.Common.{◌≡◌, ap, refl, sym, ◌∙◌}
+use Rattle.decision.specs.BookContents.{offer_at, rows_of}
+use Rattle.loc_rib.proofs.RowSteps.{always_ok, apart_same, through_err, through_ok}
+use Rattle.loc_rib.proofs.RowTables.{best_another, best_stays, offer_is, offers_lifted, route_is, routes_lifted}
+use Rattle.loc_rib.specs.PrefixRows.{adj_in_of, book_of, offer_of}
+use Rattle.prefix_trie.specs.TrieMap.{found}
+use Rattle.rib_in.specs.LatestRoutes.{route_at}
+use Rattle.std.proofs.Common.{Some}
 use Rattle.loc_rib.proofs.ribs.Ribs.announce.Goals as goal
 
-pub invariant_of-self-then-is_err-2 : goal.invariant_of-self-then-is_err-2
-invariant_of-self-then-is_err-2 g c =
-    let none = no_route_yet c.room.result c.self.inside.adj_in (g.B.Book.kept c.self.inside.book) c.args.slot c.args.prefix c.self.invariant c.room.ensures.there c.if-is_err-2.ensures.value in
-    let same = routes_back c.self.inside.adj_in c.announce.new.self c.withdraw.new.self c.args.slot c.args.prefix c.args.attrs.value none (on_ok c.announce.result _ c.announce.ensures.ok c.if-is_err.ensures.value) c.withdraw.ensures in
-    roomy_back c.self.inside.adj_in c.withdraw.new.self (g.B.Book.kept c.self.inside.book) (g.B.Book.kept c.room.new.self) c.args.slot c.args.prefix (is_ok c.room.result) (not_ok c.room.result c.if-is_err-2.ensures.value) c.self.invariant same c.room.ensures.offers c.room.ensures.places c.room.ensures.rows
+pub announce_in-requires-clause-apart : goal.announce_in-requires-clause-apart
+announce_in-requires-clause-apart g c =
+    apart_same c.args.slot c.args.candidate (λ s. offer_at (book_of c.self.inside.rows.entries) s c.args.prefix) (offer_of (found c.self.inside.rows.entries c.args.prefix))
+    (λ s. sym (offer_is c.self.inside.rows.entries s c.args.prefix)) (rw (← c.self.view_is) at c.requires.apart)
 
-pub returns-then-is_err-2-clause-err : goal.returns-then-is_err-2-clause-err
-returns-then-is_err-2-clause-err g c =
-    let none = no_route_yet c.room.result c.self.inside.adj_in (g.B.Book.kept c.self.inside.book) c.args.slot c.args.prefix c.self.invariant c.room.ensures.there c.if-is_err-2.ensures.value in
-    let same = routes_back c.self.inside.adj_in c.announce.new.self c.withdraw.new.self c.args.slot c.args.prefix c.args.attrs.value none (on_ok c.announce.result _ c.announce.ensures.ok c.if-is_err.ensures.value) c.withdraw.ensures in
-    rw (← c.self.view_is) (same, c.room.ensures.offers, c.room.ensures.rows)
+pub returns-clause-routes : goal.returns-clause-routes
+returns-clause-routes g c =
+    rw (← c.self.view_is)
+    (through_ok c.announce_in.result _ _ c.announce_in.ensures.routes
+    (routes_lifted (Some c.args.attrs.value) c.self.inside.rows.entries c.announce_in.new.rows.entries c.args.slot c.args.prefix c.announce_in.ensures.others))
 
-pub change-requires-clause-distinct : goal.change-requires-clause-distinct
-change-requires-clause-distinct g c =
-    let apart = rw (← c.self.view_is) at c.requires.apart in
-    apart_same c.args.slot c.args.candidate _ _ (λ s. c.room.ensures.offers s c.args.prefix) apart
+pub returns-clause-offers : goal.returns-clause-offers
+returns-clause-offers g c =
+    rw (← c.self.view_is)
+    (through_ok c.announce_in.result _ _ c.announce_in.ensures.offers
+    (offers_lifted c.args.candidate c.self.inside.rows.entries c.announce_in.new.rows.entries c.args.slot c.args.prefix c.announce_in.ensures.others))
 
-pub invariant_of-self-2 : goal.invariant_of-self-2
-invariant_of-self-2 g c =
-    roomy_announced c.self.inside.adj_in c.announce.new.self (g.B.Book.kept c.self.inside.book) (g.B.Book.kept c.room.new.self) (g.B.Book.kept c.change.new.self) c.args.slot c.args.prefix c.args.attrs.value c.args.candidate c.self.invariant
-    (on_ok c.announce.result _ c.announce.ensures.ok c.if-is_err.ensures.value) c.room.ensures.offers (room_made c.room.result _ _ c.args.slot c.args.prefix c.if-is_err-2.ensures.value c.room.ensures.places) c.change.ensures.offers c.change.ensures.places c.room.ensures.rows c.change.ensures.best c.change.ensures.others
+pub returns-clause-err : goal.returns-clause-err
+returns-clause-err g c =
+    rw (← c.self.view_is)
+    (through_err c.announce_in.result _ _ c.announce_in.ensures.err
+    (λ same. (λ s p. ap (λ es. route_at (adj_in_of es) s p) same.0, λ s p. ap (λ es. offer_at (book_of es) s p) same.0, ap (λ es. rows_of (book_of es)) same.0)))
+
+pub returns-clause-others : goal.returns-clause-others
+returns-clause-others g c =
+    rw (← c.self.view_is)
+    (best_stays c.self.inside.rows.entries c.announce_in.new.rows.entries c.args.prefix c.self.invariant.0 c.announce_in.ensures.rows.0 c.announce_in.ensures.others)
+
+pub returns-clause-absent : goal.returns-clause-absent
+returns-clause-absent g c =
+    rw (← c.self.view_is)
+    (through_err c.announce_in.result _ _ c.announce_in.ensures.absent (λ none. route_is c.self.inside.rows.entries c.args.slot c.args.prefix ∙ none))
+
+pub returns-clause-another : goal.returns-clause-another
+returns-clause-another g c =
+    rw (← c.self.view_is)
+    (always_ok c.announce_in.result _ (λ another.
+    c.announce_in.ensures.another (best_another c.self.inside.rows.entries c.announce_in.new.rows.entries c.args.prefix c.self.invariant.0 c.announce_in.ensures.rows.0 another)))
+
+pub returns-clause-same : goal.returns-clause-same
+returns-clause-same g c =
+    rw (← c.self.view_is) (λ same. c.announce_in.ensures.same (sym (offer_is c.self.inside.rows.entries c.args.slot c.args.prefix) ∙ same))

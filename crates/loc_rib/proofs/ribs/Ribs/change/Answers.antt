@@ -1,12 +1,34 @@
-use Rattle.std.proofs.Common.{sym}
-use Rattle.decision.proofs.BookRows.{prefix_exact}
-use Rattle.loc_rib.proofs.BookRooms.{roomy_changed}
+use Rattle.std.proofs.Common.{◌≡◌, All, ap, sym, subst, ◌∙◌}
+use Rattle.std.specs.Option.{IsSome}
+use Rattle.decision.specs.BookContents.{changed, offer_at}
+use Rattle.loc_rib.proofs.RowTables.{apart_rows, best_another, best_stays, changes_lifted, offer_is, route_is}
+use Rattle.loc_rib.specs.PrefixRows.{adj_in_of, book_of}
+use Rattle.rib_in.specs.LatestRoutes.{route_at}
 use Rattle.loc_rib.proofs.ribs.Ribs.change.Goals as goal
 
-pub change-requires-clause-distinct : goal.change-requires-clause-distinct
-change-requires-clause-distinct g c = rw (← c.self.view_is) at c.requires.apart
-
-pub invariant_of-self : goal.invariant_of-self
-invariant_of-self g c =
+pub change_in-requires-clause-routed : goal.change_in-requires-clause-routed
+change_in-requires-clause-routed g c =
     let routed = rw (← c.self.view_is) at c.requires.routed in
-    roomy_changed _ _ _ c.args.prefix c.args.changes.now c.self.invariant routed c.change.ensures.offers c.change.ensures.places (λ p at. sym (prefix_exact c.args.prefix p at)) c.change.ensures.best c.change.ensures.others
+    λ k d at. subst IsSome (route_is c.self.inside.rows.entries _ c.args.prefix) (routed k d at)
+
+pub change_in-requires-clause-apart : goal.change_in-requires-clause-apart
+change_in-requires-clause-apart g c = apart_rows c.self.inside.rows.entries c.args.prefix c.args.changes.now (rw (← c.self.view_is) at c.requires.apart)
+
+pub returns-clause-offers : goal.returns-clause-offers
+returns-clause-offers g c =
+    rw (← c.self.view_is) (changes_lifted (changed c.args.changes.now) c.self.inside.rows.entries c.change_in.new.rows.entries c.args.prefix c.change_in.ensures.others c.change_in.ensures.offers)
+
+pub returns-clause-others : goal.returns-clause-others
+returns-clause-others g c =
+    rw (← c.self.view_is)
+    (best_stays c.self.inside.rows.entries c.change_in.new.rows.entries c.args.prefix c.self.invariant.0 c.change_in.ensures.rows.0 c.change_in.ensures.others)
+
+pub returns-clause-another : goal.returns-clause-another
+returns-clause-another g c =
+    rw (← c.self.view_is) (λ another.
+    c.change_in.ensures.another (best_another c.self.inside.rows.entries c.change_in.new.rows.entries c.args.prefix c.self.invariant.0 c.change_in.ensures.rows.0 another))
+
+pub returns-clause-same : goal.returns-clause-same
+returns-clause-same g c =
+    rw (← c.self.view_is) (λ same.
+    c.change_in.ensures.same (λ s. subst (λ o. changed c.args.changes.now s o ≡ o) (offer_is c.self.inside.rows.entries s c.args.prefix) (same s)))

@@ -7,5 +7,5 @@ use Rattle.routes.proofs.routes.Routes.candidate_at.Goals as goal
 
 pub returns-in-Some : goal.returns-in-Some
 returns-in-Some g c =
-    let read = c.routes-routes.ensures.all ∙ ap (λ (t : RibTables). t.adj_in) c.ribs.ensures in
+    let read = ap (λ (t : RibTables). t.adj_in) c.ribs.ensures in
     rw (← c.self.view_is) (subst (λ (t : RouteTable). IsOffer (tables c.self.inside.conf (payloads_under c.self.inside.conf c.self.inside.payloads) c.self.inside.links.entries t) c.args.slot c.args.prefix c.in-Some.change.candidate) read c.in-Some.ensures.offer)

@@ -16,7 +16,7 @@ loop-prefix-init g c = (drops_first _ _, others_first _ _, c.requires, λ p ther
 pub loop-prefix-preserved : goal.loop-prefix-preserved
 loop-prefix-preserved g c =
     let h = c.loop-prefix.invariant in
-    let read = c.routes.ensures.all ∙ ap (λ (t : RoutingState). t.adj_in) c.self.view_is in
+    let read = ap (λ (t : RoutingState). t.adj_in) c.self.view_is in
     let has = subst (λ t. IsSome (route_at t c.args.slot c.in-Some.prefix)) read c.in-Some.ensures.has in
     let least = subst (λ t. (x : Prefix) → IsAbove c.loop-prefix.after x → IsSome (route_at t c.args.slot x) → is_gt (prefix_cmp c.in-Some.prefix x) ≡ false) read c.in-Some.ensures.least in (
       drops_more c.args.slot c.loop-prefix.after c.in-Some.prefix _ _ _ h.0 least c.withdraw.ensures.routes,

@@ -1,0 +1,10 @@
+use Rattle.std.proofs.Common.{◌≡◌}
+use Rattle.prefix_trie.specs.TrieWalks.{first_key}
+use Rattle.rib_in.specs.LatestRoutes.{routes_of}
+use Rattle.loc_rib.specs.PrefixRows.{adj_in_of}
+use Rattle.loc_rib.proofs.row_map.first_of_slot.Given as goal
+
+abbrev pub invariant-loop-prefix : goal.invariant-loop-prefix
+invariant-loop-prefix g l =
+    (first_key (routes_of l.fn.slot (adj_in_of l.fn.range)) ≡ first_key (routes_of l.fn.slot (adj_in_of l.prefix-iterator)))
+    × (goal.iterator-loop-prefix g).can_next l.prefix-iterator × (goal.iterator-loop-prefix g).is_finite l.prefix-iterator

@@ -1,0 +1,165 @@
+//! The rows by prefix.
+ghost use Rattle.std.specs.Prelude.{◌≡◌, ◌≢◌, ◌≤◌, ◌+◌, ◌-◌, ◌^◌, ◌==◌, ℕ, None, false, All, IfSome, IsSome, OnErr, OnOk, min, slice_get, if◌then◌else◌};
+ghost use Rattle.decision.specs.BookContents.{AreApart, changed, is_prefix, rows_of};
+ghost use Rattle.net_prefix.specs.declared.prefix.Prefix.{Prefix as ThePrefix};
+ghost use Rattle.prefix_trie.specs.TrieMap.{found};
+ghost use Rattle.prefix_trie.specs.TrieWalks.{first_key};
+ghost use Rattle.rib_in.specs.LatestRoutes.{routes_of};
+ghost use Rattle.loc_rib.specs.PrefixRows.{AreRows, adj_in_of, best_of, book_of, offer_of, route_of};
+
+use crate::row::Row;
+use bgp_attr::Attrs;
+use decision::{Book, Candidate, Change, Meter};
+use net_prefix::Prefix;
+use std::alloc::{AllocError, Allocator};
+use std::collections::btree_map::Entry;
+use std::collections::{BTreeMap, btree_map};
+use std::rc::Rc;
+
+// The rows by prefix.
+pub(crate) type RowMap<A, B> = BTreeMap<Prefix, Row<A, B>, A>;
+
+// The slot has this route to the prefix from now on, which makes this candidate.
+pub(crate) fn announce_in<A: Allocator + Clone, B: Book<A>>(
+    rows: &mut RowMap<A, B>,
+    alloc: &A,
+    meter: &mut Meter,
+    slot: u8,
+    prefix: Prefix,
+    attrs: Rc<Attrs<A>, A>,
+    candidate: Option<Candidate>,
+) -> Result<(), AllocError>
+    requires rows { AreRows rows.old.entries }
+    requires named { IfSome candidate (λ c. c.slot ≡ slot) }
+    requires apart { AreApart (λ s. if slot == s then candidate else offer_of (found rows.old.entries prefix) s) }
+    ensures rows { AreRows rows.new.entries }
+    ensures others { (p : ThePrefix) → is_prefix prefix p ≡ false → found rows.new.entries p ≡ found rows.old.entries p }
+    ensures routes { OnOk result ((s : ℕ) → route_of (found rows.new.entries prefix) s ≡ (if slot == s then Some attrs.value else route_of (found rows.old.entries prefix) s)) }
+    ensures offers { OnOk result ((s : ℕ) → offer_of (found rows.new.entries prefix) s ≡ (if slot == s then candidate else offer_of (found rows.old.entries prefix) s)) }
+    ensures err { OnErr result ((rows.new.entries ≡ rows.old.entries) × (meter.new.count ≡ meter.old.count)) }
+    ensures absent { OnErr result (route_of (found rows.old.entries prefix) slot ≡ None) }
+    ensures counted { (meter.old.count ≤ meter.new.count) × (meter.new.count ≤ meter.old.count + 1) }
+    ensures another { best_of (found rows.new.entries prefix) ≢ best_of (found rows.old.entries prefix) → meter.new.count ≡ min (meter.old.count + 1) (2 ^ 64 - 1) }
+    ensures same { offer_of (found rows.old.entries prefix) slot ≡ candidate → meter.new.count ≡ meter.old.count }
+{
+    match rows.entry(prefix) {
+        Ok(Entry::Occupied(entry)) => entry
+            .into_mut()
+            .announce(alloc, meter, slot, attrs, candidate),
+        Ok(vacant) => {
+            let row = vacant.or_try_insert_with(|| Row::of(alloc, slot, attrs))?;
+            row.offer(meter, slot, candidate);
+            Ok(())
+        }
+        Err(_) => Err(AllocError),
+    }
+}
+
+// The slot has this route to the prefix from now on. If it had none, this one makes no candidate yet.
+pub(crate) fn bring_in<A: Allocator + Clone, B: Book<A>>(
+    rows: &mut RowMap<A, B>,
+    alloc: &A,
+    slot: u8,
+    prefix: Prefix,
+    attrs: Rc<Attrs<A>, A>,
+) -> Result<(), AllocError>
+    requires { AreRows rows.old.entries }
+    ensures rows { AreRows rows.new.entries }
+    ensures others { (p : ThePrefix) → is_prefix prefix p ≡ false → found rows.new.entries p ≡ found rows.old.entries p }
+    ensures routes { OnOk result ((s : ℕ) → route_of (found rows.new.entries prefix) s ≡ (if slot == s then Some attrs.value else route_of (found rows.old.entries prefix) s)) }
+    ensures offers { (s : ℕ) → offer_of (found rows.new.entries prefix) s ≡ offer_of (found rows.old.entries prefix) s }
+    ensures best { rows_of (book_of rows.new.entries) ≡ rows_of (book_of rows.old.entries) }
+    ensures err { OnErr result (rows.new.entries ≡ rows.old.entries) }
+{
+    match rows.entry(prefix) {
+        Ok(Entry::Occupied(entry)) => entry.into_mut().put(alloc, slot, attrs),
+        Ok(vacant) => {
+            vacant.or_try_insert_with(|| Row::of(alloc, slot, attrs))?;
+            Ok(())
+        }
+        Err(_) => Err(AllocError),
+    }
+}
+
+// Makes these changes of candidates of the routes to the prefix.
+pub(crate) fn change_in<A: Allocator + Clone, B: Book<A>>(
+    rows: &mut RowMap<A, B>,
+    meter: &mut Meter,
+    prefix: Prefix,
+    changes: &[Change],
+)
+    requires rows { AreRows rows.old.entries }
+    requires routed { All (λ c. IsSome (route_of (found rows.old.entries prefix) c.slot)) changes.now }
+    requires named { All (λ c. IfSome c.candidate (λ route. route.slot ≡ c.slot)) changes.now }
+    requires apart { AreApart (λ s. changed changes.now s (offer_of (found rows.old.entries prefix) s)) }
+    ensures rows { AreRows rows.new.entries }
+    ensures others { (p : ThePrefix) → is_prefix prefix p ≡ false → found rows.new.entries p ≡ found rows.old.entries p }
+    ensures routes { adj_in_of rows.new.entries ≡ adj_in_of rows.old.entries }
+    ensures offers { (s : ℕ) → offer_of (found rows.new.entries prefix) s ≡ changed changes.now s (offer_of (found rows.old.entries prefix) s) }
+    ensures counted { (meter.old.count ≤ meter.new.count) × (meter.new.count ≤ meter.old.count + 1) }
+    ensures another { best_of (found rows.new.entries prefix) ≢ best_of (found rows.old.entries prefix) → meter.new.count ≡ min (meter.old.count + 1) (2 ^ 64 - 1) }
+    ensures same { ((s : ℕ) → changed changes.now s (offer_of (found rows.old.entries prefix) s) ≡ offer_of (found rows.old.entries prefix) s) → meter.new.count ≡ meter.old.count }
+{
+    let Some(row) = rows.get_mut(&prefix) else {
+        return;
+    };
+    row.change(meter, changes);
+}
+
+// The slot has no route to the prefix any more. A row goes with its last route.
+pub(crate) fn withdraw_in<A: Allocator + Clone, B: Book<A>>(
+    rows: &mut RowMap<A, B>,
+    meter: &mut Meter,
+    slot: u8,
+    prefix: Prefix,
+)
+    requires { AreRows rows.old.entries }
+    ensures rows { AreRows rows.new.entries }
+    ensures others { (p : ThePrefix) → is_prefix prefix p ≡ false → found rows.new.entries p ≡ found rows.old.entries p }
+    ensures routes { (s : ℕ) → route_of (found rows.new.entries prefix) s ≡ (if slot == s then None else route_of (found rows.old.entries prefix) s) }
+    ensures offers { (s : ℕ) → offer_of (found rows.new.entries prefix) s ≡ (if slot == s then None else offer_of (found rows.old.entries prefix) s) }
+    ensures counted { (meter.old.count ≤ meter.new.count) × (meter.new.count ≤ meter.old.count + 1) }
+    ensures another { best_of (found rows.new.entries prefix) ≢ best_of (found rows.old.entries prefix) → meter.new.count ≡ min (meter.old.count + 1) (2 ^ 64 - 1) }
+    ensures never { offer_of (found rows.old.entries prefix) slot ≡ None → meter.new.count ≡ meter.old.count }
+{
+    // `entry` would take memory where the prefix isn't there.
+    let Some(row) = rows.get_mut(&prefix) else {
+        return;
+    };
+    if !row.is_only(slot) {
+        row.leave(meter, slot);
+        return;
+    }
+    if let Some(row) = rows.remove(&prefix) {
+        row.end(meter, slot);
+    }
+}
+
+// The first prefix of a range to which the slot has a route.
+pub(crate) fn first_of_slot<A: Allocator + Clone, B: Book<A>>(
+    range: btree_map::Range<'_, Prefix, Row<A, B>>,
+    slot: u8,
+) -> Option<Prefix>
+    ensures { result ≡ first_key (routes_of slot (adj_in_of range.entry)) }
+{
+    for (prefix, row) in range {
+        if row.get(slot).is_some() {
+            return Some(*prefix);
+        }
+    }
+    None
+}
+
+// The first best route of a range.
+pub(crate) fn first_best<A: Allocator + Clone, B: Book<A>>(
+    range: btree_map::Range<'_, Prefix, Row<A, B>>,
+) -> Option<(Prefix, Candidate)>
+    ensures { result ≡ slice_get (rows_of (book_of range.entry)) 0 }
+{
+    for (prefix, row) in range {
+        if let Some(best) = row.best() {
+            return Some((*prefix, best));
+        }
+    }
+    None
+}

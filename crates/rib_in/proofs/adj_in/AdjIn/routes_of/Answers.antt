@@ -1,8 +1,0 @@
-use Rattle.rib_in.proofs.Walks.{found_routes, rising_routes}
-use Rattle.rib_in.proofs.adj_in.AdjIn.routes_of.Goals as goal
-
-pub returns-clause-rising : goal.returns-clause-rising
-returns-clause-rising g c = rw c.behind.ensures (rising_routes c.args.slot c.args.self.now c.rises.ensures)
-
-pub returns-clause-found : goal.returns-clause-found
-returns-clause-found g c = rw c.behind.ensures (λ p. found_routes c.args.slot p c.args.self.now c.rises.ensures)
