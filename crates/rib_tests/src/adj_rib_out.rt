@@ -252,15 +252,37 @@ fn is_shared(rt: &impl Abort, alloc: Global, nth: u64) -> bool
     true
 }
 
-// The first n for which all that the first octets ask for is there is one more than that: the next request is refused.
-#[test]
-fn peers_share_what_was_announced_lately(rt: HostRuntime) {
-    let mut found = false;
-    for nth in 1..1_000u64 {
-        found = is_shared(&rt, rt.alloc(), nth);
-        if found {
-            break;
+// Whether octets are told though a request of theirs, the nth of all, is refused.
+fn is_told_unshared(rt: &impl Abort, alloc: Global, nth: u64) -> bool
+    requires { 1 ≤ nth }
+{
+    let heap = Refusing::new(alloc, nth);
+    let Ok(mut recent) = RecentOctets::new(&heap) else {
+        panic!(rt; "no memory");
+    };
+    recent.shared(&[7; 40]).is_ok() && heap.has_refused()
+}
+
+// Whether it is so with one of the first requests.
+fn is_ever<F: Fn(u32) -> bool>(is_so: F) -> bool
+    requires { F.IsAlwaysCallable is_so }
+{
+    for before in 0..1_000 {
+        if is_so(before) {
+            return true;
         }
     }
-    assert!(rt; found);
+    false
+}
+
+// One more request than all that the first octets ask for is the next one.
+#[test]
+fn peers_share_what_was_announced_lately(rt: HostRuntime) {
+    assert!(rt; is_ever(|before| is_shared(&rt, rt.alloc(), u64::from(before) + 1)));
+}
+
+// Memory for the lists is refused.
+#[test]
+fn octets_are_told_where_nobody_can_share_them(rt: HostRuntime) {
+    assert!(rt; is_ever(|before| is_told_unshared(&rt, rt.alloc(), u64::from(before) + 1)));
 }
