@@ -1,9 +1,7 @@
-//! Tests alone, of attributes, messages and sessions: what no answer of a script shows, and want of memory. A file is named for
-//! what it tests. Octets and most rows of the session table are scripts of the crate play_scripts.
+//! Tests alone, of messages and sessions: what no script reaches, what logs show of a NOTIFICATION, and want of memory. A file is
+//! named for what it tests.
 #![tactic(auto)]
 
-#[cfg(test)]
-mod attributes;
 #[cfg(test)]
 mod messages;
 #[cfg(test)]

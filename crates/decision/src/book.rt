@@ -56,6 +56,8 @@ pub trait Book<A: Allocator + Clone>: Drop {
         ensures kept { IsKept (kept self.new) }
         ensures counted { (meter.old.count ≤ meter.new.count) × (meter.new.count ≤ meter.old.count + 1) }
         ensures never { with_changes changes.now (kept self.old).places ≡ (kept self.old).places → meter.new.count ≡ meter.old.count }
+        // A change of what is there is counted, also where the same candidate stays the best one.
+        ensures made { with_changes changes.now (kept self.old).places ≢ (kept self.old).places → meter.new.count ≡ min (meter.old.count + 1) (2 ^ 64 - 1) }
         // Another best route is one that was chosen.
         ensures chosen { (kept self.new).best ≢ (kept self.old).best → meter.new.count ≡ min (meter.old.count + 1) (2 ^ 64 - 1) };
 
@@ -67,6 +69,7 @@ pub trait Book<A: Allocator + Clone>: Drop {
         ensures kept { IsKept (kept self.new) }
         ensures counted { (meter.old.count ≤ meter.new.count) × (meter.new.count ≤ meter.old.count + 1) }
         ensures never { candidate_of (kept self.old).places slot ≡ None → meter.new.count ≡ meter.old.count }
+        ensures gone { candidate_of (kept self.old).places slot ≢ None → meter.new.count ≡ min (meter.old.count + 1) (2 ^ 64 - 1) }
         ensures chosen { (kept self.new).best ≢ (kept self.old).best → meter.new.count ≡ min (meter.old.count + 1) (2 ^ 64 - 1) }
         ensures empty { IsTrue result ↔ ((kept self.new).places ≡ []) };
 

@@ -1,6 +1,6 @@
 -- In what goes on to a peer it finds no fault.
 use Rattle.std.proofs.Common.{◌≡◌, ◌≤◌, ◌<◌, ◌^◌, ℕ, suc, Bool, true, false, nat_le, List, [], ◌∷◌, ◌++◌, length, length-append, Option, Some, None, zero, MatchOption, arith, refl, ap, subst, ◌∙◌, if◌then◌else◌}
-use Rattle.std.specs.Prelude.{is_none}
+use Rattle.std.specs.Prelude.{◌-◌, is_none, min}
 use Rattle.std.specs.Bool.{⊤}
 use Rattle.std.proofs.lemmas.Bool.{leb-true}
 use Rattle.std.specs.Bool.{OnTrue}
@@ -13,7 +13,7 @@ use Rattle.bgp_attr.specs.AttributeTable.{is_taken}
 use Rattle.bgp_attr.specs.PathAttributes.{PathAttributes, missing_of}
 use Rattle.bgp_attr.specs.PathReading.{begins_right}
 use Rattle.bgp_attr.specs.PeerKinds.{kind_between}
-use Rattle.bgp_attr.specs.UnknownAttributes.{ArePassedOn}
+use Rattle.bgp_attr.specs.SoundRoutes.{IsSoundRoute}
 use Rattle.bgp_attr.specs.declared.attribute_type.AttributeType.{AttributeType}
 use Rattle.bgp_attr.specs.declared.attribute_type.AttributeType.TheVariants as type
 use Rattle.bgp_attr.specs.declared.attrs.Origin.{Origin}
@@ -25,8 +25,10 @@ use Rattle.bgp_attr.proofs.PrependedPaths.{begins_prepended, segments_prepended}
 use Rattle.bgp_attr.proofs.SoundValues.{host_is}
 use Rattle.bgp_attr.proofs.WrittenSpellings.{written_spells}
 use Rattle.decision.specs.declared.candidate.Candidate.{Candidate}
-use Rattle.export_rules.specs.Export.{AreAccepted, AreGood, IsComplete, IsSender, Tells, exported_of, fitting, is_internal, is_local, local_pref_of, med_inside, next_hop_inside, passed_inside}
+use Rattle.export_rules.specs.Export.{AreAccepted, AreGood, AreNumbers, IsComplete, IsSender, Tells, announced_by, export_at, exported_of, fitting, in_front, is_internal, is_kept_from, is_local, med_inside, med_set, next_hop_inside, passed_inside}
 use Rattle.export_rules.specs.declared.export.ExportPeer.{ExportPeer}
+use Rattle.policy.specs.declared.rule.Action.{Action}
+use Rattle.policy.specs.declared.rule.Action.TheVariants.{Accept, Reject}
 use Rattle.net_prefix.specs.declared.asn.Asn.{Asn}
 
 -- a path is no longer than the attributes that it stands in
@@ -67,12 +69,11 @@ fits_if : (fits : Bool) (octets out : List ℕ) → (if fits then Some octets el
 fits_if true octets out is same = (cc, same)
 fits_if false octets out is same = absurd cc
 
--- what the writer tells of good attributes
-pub told_accepted : (told : Bool) (out : List ℕ) (kind : PeerKind) (sent : PathAttributes) → Tells told out (fitting (attributes_spelling sent)) → OnTrue told (AreGood kind sent → AreAccepted kind out)
-told_accepted true out kind sent told = λ good.
-    let fits = fits_if (nat_le (length (attributes_spelling sent)) 4068) (attributes_spelling sent) out told refl in
+-- so is what a message holds of them
+fitting_accepted : (kind : PeerKind) (sent : PathAttributes) (out : List ℕ) → AreGood kind sent → fitting (attributes_spelling sent) ≡ Some out → AreAccepted kind out
+fitting_accepted kind sent out good same =
+    let fits = fits_if (nat_le (length (attributes_spelling sent)) 4068) (attributes_spelling sent) out same refl in
     subst (AreAccepted kind) fits.0 (good_accepted kind sent good (leb-true _ _ fits.1))
-told_accepted false out kind sent told = tt
 
 -- the path as it goes on to an external peer is lawful
 path_lawful : (o : Option (List PathSegment)) (own : Asn) (times : ℕ) → IsAs own → 0 < times → MatchOption o ⊤ (AllByRecursion IsSegment)
@@ -80,11 +81,6 @@ path_lawful : (o : Option (List PathSegment)) (own : Asn) (times : ℕ) → IsAs
 path_lawful None own times is some lawful = tt
 path_lawful (Some path) own zero is some lawful = absurd (omega (arith, some))
 path_lawful (Some path) own (suc more) is some lawful = (segments_prepended path own (suc more) is lawful, begins_prepended path own more)
-
--- a path without an AS in front is the path
-pub same_path : (o : Option (List PathSegment)) → option_map (λ (path : List PathSegment). path) o ≡ o
-same_path None = refl
-same_path (Some path) = refl
 
 -- and the path as it goes on to an internal one
 inside_lawful : (o : Option (List PathSegment)) → MatchOption o ⊤ (AllByRecursion IsSegment) → MatchOption o ⊤ (λ path. AllByRecursion IsSegment path × (begins_right Internal path ≡ true))
@@ -119,63 +115,88 @@ inside_complete (Some origin) (Some path) None some_origin some_path some_next_h
 inside_complete (Some origin) (Some path) (Some next_hop) some_origin some_path some_next_hop = refl
 
 -- what goes on to an external peer is good
-pub exported_good : (attrs : PathAttributes) (peer : ExportPeer) (med : Option ℕ) (times : ℕ) → MatchOption med ⊤ (λ n. n < 2 ^ 32) → peer.own.0 < 2 ^ 32 → peer.local < 2 ^ 32
-    → MatchOption attrs.as_path ⊤ (AllByRecursion IsSegment) → MatchOption attrs.aggregator ⊤ (λ a. (a.asn.0 < 2 ^ 32) × (a.address < 2 ^ 32)) → ArePassedOn attrs.unknown
-    → IsSender peer → IsSome attrs.origin → IsSome attrs.as_path → 0 < times → AreGood (External peer.own) (exported_of attrs peer med times)
+exported_good : (attrs : PathAttributes) (peer : ExportPeer) (med : Option ℕ) (times : ℕ) → AreNumbers peer med → IsSoundRoute attrs → 0 < times → IsSender peer → IsSome attrs.origin → IsSome attrs.as_path
+    → AreGood (External peer.own) (exported_of attrs peer med times)
 unfolding exported_of
-exported_good attrs peer med times bound own local lawful small passed sender origin as_path some =
+exported_good attrs peer med times small sound some sender origin as_path =
     record {
-      lawful = record { as_path = path_lawful attrs.as_path peer.own times (sender.own, own) some lawful; next_hop = host_is peer.local local sender.local; multi_exit_disc = bound; local_pref = tt; aggregator = small };
+      lawful =
+          record {
+            as_path = path_lawful attrs.as_path peer.own times (sender.own, small.own) some sound.segments;
+            next_hop = host_is peer.local small.local sender.local;
+            multi_exit_disc = small.set;
+            local_pref = tt;
+            aggregator = sound.aggregator;
+          };
       taken = not_sent attrs peer med times;
-      unknown = passed;
+      unknown = sound.unknown;
       complete = complete_if attrs.origin attrs.as_path peer.own times origin as_path;
     }
 
 -- a next hop inside the own AS is there, and the address of a host
-inside_host : (local_route : Bool) (local : ℕ) (received : Option ℕ) → is_host local ≡ true → MatchOption (if local_route then Some local else received) ⊤ (λ address. address < 2 ^ 32)
-    → (local_route ≡ false → MatchOption (if local_route then Some local else received) ⊤ (λ address. is_host address ≡ true)) → (local_route ≡ false → IsSome received)
+inside_host : (local_route : Bool) (local : ℕ) (received : Option ℕ) → IsHost local → MatchOption received ⊤ (λ n. n < 2 ^ 32) → MatchOption received ⊤ (λ n. is_host n ≡ true) → (local_route ≡ false → IsSome received)
     → MatchOption (if local_route then Some local else received) ⊤ IsHost × IsSome (if local_route then Some local else received)
-inside_host true local received host bound hosts some = (host_is local bound host, refl)
-inside_host false local None host bound hosts some = let there = some refl in absurd cc
-inside_host false local (Some address) host bound hosts some = (host_is address bound (hosts refl), refl)
+inside_host true local received host small hosts some = (host, refl)
+inside_host false local None host small hosts some = let there = some refl in absurd cc
+inside_host false local (Some address) host small hosts some = (host_is address small hosts, refl)
+
+med_small : (med received : Option ℕ) → MatchOption med ⊤ (λ n. n < 2 ^ 32) → MatchOption received ⊤ (λ n. n < 2 ^ 32) → MatchOption (med_inside med received) ⊤ (λ n. n < 2 ^ 32)
+med_small None received set small = small
+med_small (Some med) received set small = set
+
+preference_small : (local_route : Bool) (degree : ℕ) → (if local_route then 100 else min degree (2 ^ 32 - 1)) < 2 ^ 32
+preference_small true degree = omega arith
+preference_small false degree = omega arith
 
 -- what goes on to an internal peer is good
-pub inside_good : (route : Candidate) (attrs : PathAttributes) (peer : ExportPeer) (med : Option ℕ) → MatchOption (med_inside med attrs.multi_exit_disc) ⊤ (λ n. n < 2 ^ 32)
-    → local_pref_of route < 2 ^ 32 → MatchOption (next_hop_inside route attrs peer) ⊤ (λ address. address < 2 ^ 32)
-    → (is_local route ≡ false → MatchOption (next_hop_inside route attrs peer) ⊤ (λ address. is_host address ≡ true))
-    → MatchOption attrs.as_path ⊤ (AllByRecursion IsSegment) → MatchOption attrs.aggregator ⊤ (λ a. (a.asn.0 < 2 ^ 32) × (a.address < 2 ^ 32)) → ArePassedOn attrs.unknown
-    → IsSender peer → IsComplete route attrs → AreGood Internal (passed_inside route attrs peer med)
+inside_good : (route : Candidate) (attrs : PathAttributes) (peer : ExportPeer) (med : Option ℕ) → AreNumbers peer med → IsSoundRoute attrs → IsSender peer → IsComplete route attrs
+    → AreGood Internal (passed_inside route attrs peer med)
 unfolding passed_inside
-inside_good route attrs peer med bound preference next_hop hosts lawful small passed sender complete =
-    let hop = inside_host (is_local route) peer.local attrs.next_hop sender.local next_hop hosts complete.next_hop in
+inside_good route attrs peer med small sound sender complete =
+    let hop = inside_host (is_local route) peer.local attrs.next_hop (host_is peer.local small.local sender.local) sound.next_hop sound.host complete.next_hop in
     record {
-      lawful = record { as_path = inside_lawful attrs.as_path lawful; next_hop = hop.0; multi_exit_disc = bound; local_pref = preference; aggregator = small };
+      lawful =
+          record {
+            as_path = inside_lawful attrs.as_path sound.segments;
+            next_hop = hop.0;
+            multi_exit_disc = med_small med attrs.multi_exit_disc small.set sound.med;
+            local_pref = preference_small (is_local route) route.degree;
+            aggregator = sound.aggregator;
+          };
       taken = all_taken (passed_inside route attrs peer med);
-      unknown = passed;
+      unknown = sound.unknown;
       complete = inside_complete attrs.origin attrs.as_path (next_hop_inside route attrs peer) complete.origin complete.as_path hop.1;
     }
 
--- the other end sees this side as a peer of this kind
-inside_kind : (b : Bool) (own : Asn) (octets : List ℕ) → true ≡ b → AreAccepted Internal octets → AreAccepted (if b then Internal else External own) octets
-inside_kind true own octets is accepted = accepted
-inside_kind false own octets is accepted = absurd cc
+sent_accepted : (inside : Bool) (route : Candidate) (attrs : PathAttributes) (peer : ExportPeer) (med : Option ℕ) (times : ℕ) (out : List ℕ) → AreNumbers peer med → IsSoundRoute attrs → 0 < times
+    → fitting (attributes_spelling (if inside then passed_inside route attrs peer med else exported_of attrs peer med times)) ≡ Some out → IsSender peer → IsComplete route attrs
+    → AreAccepted (if inside then Internal else External peer.own) out
+sent_accepted true route attrs peer med times out small sound some same sender complete =
+    fitting_accepted Internal (passed_inside route attrs peer med) out (inside_good route attrs peer med small sound sender complete) same
+sent_accepted false route attrs peer med times out small sound some same sender complete =
+    fitting_accepted (External peer.own) (exported_of attrs peer med times) out (exported_good attrs peer med times small sound some sender complete.origin complete.as_path) same
 
-outside_kind : (b : Bool) (own : Asn) (octets : List ℕ) → false ≡ b → AreAccepted (External own) octets → AreAccepted (if b then Internal else External own) octets
-outside_kind true own octets is accepted = absurd cc
-outside_kind false own octets is accepted = accepted
+in_front_some : (more : Option ℕ) → 0 < in_front more
+in_front_some None = omega arith
+in_front_some (Some more) = omega arith
 
--- what an internal peer is told it accepts
-pub accepted_inside : (told : Bool) (out : List ℕ) (route : Candidate) (attrs : PathAttributes) (peer : ExportPeer) (med : Option ℕ) → true ≡ is_internal peer
-    → (IsSender peer → IsComplete route attrs → AreGood Internal (passed_inside route attrs peer med)) → Tells told out (fitting (attributes_spelling (passed_inside route attrs peer med)))
-    → OnTrue told (IsSender peer → IsComplete route attrs → AreAccepted (kind_between peer.asn peer.own) out)
-accepted_inside true out route attrs peer med is good told = λ sender complete.
-    inside_kind (is_internal peer) peer.own out is (told_accepted true out Internal (passed_inside route attrs peer med) told (good sender complete))
-accepted_inside false out route attrs peer med is good told = tt
+announced_accepted : (action : Action) (route : Candidate) (attrs : PathAttributes) (peer : ExportPeer) (out : List ℕ) → AreNumbers peer (med_set action) → IsSoundRoute attrs
+    → announced_by action route attrs peer ≡ Some out → IsSender peer → IsComplete route attrs → AreAccepted (kind_between peer.asn peer.own) out
+announced_accepted Reject route attrs peer out small sound same sender complete = absurd cc
+announced_accepted (Accept degree med prepend) route attrs peer out small sound same sender complete =
+    sent_accepted (is_internal peer) route attrs peer med (in_front prepend) out small sound (in_front_some prepend) same sender complete
 
--- and what an external one is told
-pub accepted_outside : (told : Bool) (out : List ℕ) (route : Candidate) (attrs : PathAttributes) (peer : ExportPeer) (med : Option ℕ) (times : ℕ) → false ≡ is_internal peer
-    → (IsSender peer → IsSome attrs.origin → IsSome attrs.as_path → AreGood (External peer.own) (exported_of attrs peer med times)) → Tells told out (fitting (attributes_spelling (exported_of attrs peer med times)))
-    → OnTrue told (IsSender peer → IsComplete route attrs → AreAccepted (kind_between peer.asn peer.own) out)
-accepted_outside true out route attrs peer med times is good told = λ sender complete.
-    outside_kind (is_internal peer) peer.own out is (told_accepted true out (External peer.own) (exported_of attrs peer med times) told (good sender complete.origin complete.as_path))
-accepted_outside false out route attrs peer med times is good told = tt
+export_if : (kept : Bool) (route : Candidate) (attrs : PathAttributes) (peer : ExportPeer) (action : Action) (out : List ℕ) → AreNumbers peer (med_set action) → IsSoundRoute attrs
+    → (if kept then None else announced_by action route attrs peer) ≡ Some out → IsSender peer → IsComplete route attrs → AreAccepted (kind_between peer.asn peer.own) out
+export_if true route attrs peer action out small sound same sender complete = absurd cc
+export_if false route attrs peer action out small sound same sender complete = announced_accepted action route attrs peer out small sound same sender complete
+
+-- the export of a route that was taken is accepted
+pub export_accepted : (route : Candidate) (attrs : PathAttributes) (peer : ExportPeer) (action : Action) (out : List ℕ) → AreNumbers peer (med_set action) → IsSoundRoute attrs
+    → export_at route attrs peer action ≡ Some out → IsSender peer → IsComplete route attrs → AreAccepted (kind_between peer.asn peer.own) out
+export_accepted route attrs peer action out small sound same sender complete = export_if (is_kept_from route peer) route attrs peer action out small sound same sender complete
+
+pub told_accepted : (told : Bool) (out : List ℕ) (route : Candidate) (attrs : PathAttributes) (peer : ExportPeer) (action : Action) → AreNumbers peer (med_set action) → IsSoundRoute attrs
+    → Tells told out (export_at route attrs peer action) → OnTrue told (IsSender peer → IsComplete route attrs → AreAccepted (kind_between peer.asn peer.own) out)
+told_accepted true out route attrs peer action small sound told = λ sender complete. export_accepted route attrs peer action out small sound told sender complete
+told_accepted false out route attrs peer action small sound told = tt

@@ -1,3 +1,3 @@
-pub mod Spelled
 pub mod Accepted
 pub mod Travelling
+pub mod Rewritten

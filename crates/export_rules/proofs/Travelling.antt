@@ -8,7 +8,10 @@ use Rattle.bgp_attr.specs.TravellingAttributes.{AreTravelling, MayAllTravel}
 use Rattle.bgp_attr.proofs.Travelling.{spelling_travels}
 use Rattle.decision.specs.declared.candidate.Candidate.{Candidate}
 use Rattle.export_rules.specs.Export.{Tells, announced_by, export_at, exported_of, fitting, in_front, is_internal, is_kept_from, passed_inside, sent_of}
+use Rattle.export_rules.specs.Rewriting.{rewritten, written}
 use Rattle.export_rules.specs.declared.export.ExportPeer.{ExportPeer}
+use Rattle.export_rules.specs.declared.export.Rewrite.{Rewrite}
+use Rattle.export_rules.specs.declared.export.Rewrite.TheVariants.{External, Internal}
 use Rattle.policy.specs.declared.rule.Action.{Action}
 use Rattle.policy.specs.declared.rule.Action.TheVariants.{Reject, Accept}
 
@@ -22,9 +25,14 @@ fitting_travels sent out all same =
     let fits = fits_so (nat_le (length (attributes_spelling sent)) 4068) (attributes_spelling sent) out refl same in
     subst AreTravelling fits.0 (spelling_travels sent all (omega (arith, fits.1)))
 
-pub told_travels : (told : Bool) (out : List ℕ) (sent : PathAttributes) → MayAllTravel sent.unknown → Tells told out (fitting (attributes_spelling sent)) → OnTrue told (AreTravelling out)
+told_travels : (told : Bool) (out : List ℕ) (sent : PathAttributes) → MayAllTravel sent.unknown → Tells told out (fitting (attributes_spelling sent)) → OnTrue told (AreTravelling out)
 told_travels true out sent all told = fitting_travels sent out all told
 told_travels false out sent all told = tt
+
+-- what is written of changed attributes
+pub rewritten_travels : (told : Bool) (out : List ℕ) (rewrite : Rewrite) (attrs : PathAttributes) → MayAllTravel attrs.unknown → Tells told out (written rewrite attrs) → OnTrue told (AreTravelling out)
+rewritten_travels told out (External own times local med) attrs all is = told_travels told out (rewritten (External own times local med) attrs) all is
+rewritten_travels told out (Internal next_hop med local_pref) attrs all is = told_travels told out (rewritten (Internal next_hop med local_pref) attrs) all is
 
 -- what is passed on of a route is unknown as it came
 inside_same : (route : Candidate) (attrs : PathAttributes) (peer : ExportPeer) (med : Option ℕ) → MayAllTravel attrs.unknown → MayAllTravel (passed_inside route attrs peer med).unknown

@@ -1,6 +1,7 @@
 -- What a peer is sent of a route (RFC 4271 sections 5.1.2 to 5.1.7 and 9.1.3).
 use Rattle.std.specs.Prelude.{◌≡◌, ◌<◌, ◌-◌, ◌^◌, ℕ, suc, ◌==◌, ◌||◌, ◌&&◌, not, min, nat_le, Bool, true, false, if◌then◌else◌, List, [], length, Option, None, Some}
-use Rattle.std.specs.Option.{IsSome, option_map}
+use Rattle.std.specs.Bool.{⊤}
+use Rattle.std.specs.Option.{IsSome, MatchOption, option_map}
 use Rattle.bgp_attr.specs.AsPath.{prepended}
 use Rattle.bgp_attr.specs.AttributeFaults.{attributes_fault, is_host}
 use Rattle.bgp_attr.specs.AttributeReading.{attributes_in}
@@ -106,6 +107,17 @@ export_at route attrs peer action = if is_kept_from route peer then None else an
 pub record IsSender (peer : ExportPeer) : Type 0 where
   pub own : 0 < peer.own.0
   pub local : is_host peer.local ≡ true
+
+-- MULTI_EXIT_DISC that an action sets
+abbrev pub med_set : Action → Option ℕ
+med_set Reject = None
+med_set (Accept degree med prepend) = med
+
+-- what is said of this side, and what is set, are numbers of four octets
+pub record AreNumbers (peer : ExportPeer) (med : Option ℕ) : Type 0 where
+  pub own : peer.own.0 < 2 ^ 32
+  pub local : peer.local < 2 ^ 32
+  pub set : MatchOption med ⊤ (λ n. n < 2 ^ 32)
 
 -- the route has what every peer needs of it: an ORIGIN, a path, and where a peer announced it, a next hop
 pub record IsComplete (route : Candidate) (attrs : PathAttributes) : Type 0 where

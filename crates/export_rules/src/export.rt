@@ -1,17 +1,17 @@
 //! The attributes that a peer is sent.
-ghost use Rattle.std.specs.Prelude.{◌≡◌, ◌<◌, ◌≤◌, ◌^◌, [], true, false, IsSome, MatchOption, ⊤};
-ghost use Rattle.std.specs.List.{AllByRecursion};
+ghost use Rattle.std.specs.Prelude.{◌≡◌, ◌<◌, ◌≤◌, [], true, false};
 ghost use Rattle.std.specs.Bool.{OnFalse, OnTrue};
-ghost use Rattle.bgp_attr.specs.AttributeFaults.{is_host};
-ghost use Rattle.bgp_attr.specs.AttributeSpelling.{attributes_spelling, IsSegment};
+ghost use Rattle.std.specs.Option.{option_and_then, option_map};
+ghost use Rattle.arrayvec.specs.ArrayVec.{array_vec_len};
+ghost use Rattle.bgp_attr.specs.AsPath.{prepended};
+ghost use Rattle.bgp_attr.specs.AttributeSpelling.{attributes_spelling};
+ghost use Rattle.bgp_attr.specs.PathAttributes.{PathAttributes};
 ghost use Rattle.bgp_attr.specs.PeerKinds.{kind_between};
 ghost use Rattle.bgp_attr.specs.TravellingAttributes.{AreTravelling, MayAllTravel};
 ghost use Rattle.bgp_attr.specs.Written.{attributes_of, path_of};
-ghost use Rattle.bgp_attr.specs.AsPath.{prepended};
-ghost use Rattle.bgp_attr.specs.declared.peer.PeerKind.TheVariants.{External, Internal};
-ghost use Rattle.std.specs.Option.{option_map};
-ghost use Rattle.export_rules.specs.Export.{AreAccepted, AreGood, IsComplete, IsSender, Tells, export_at, exported_of, fitting, in_front, is_from_inside, is_internal, is_kept_from, is_local, local_pref_of, med_inside, most_attributes, next_hop_inside, passed_inside};
-ghost use Rattle.arrayvec.specs.ArrayVec.{array_vec_len};
+ghost use Rattle.export_rules.specs.Export.{AreAccepted, AreNumbers, IsComplete, IsSender, Tells, export_at, fitting, in_front, is_from_inside, is_internal, is_kept_from, is_local, local_pref_of, med_set, most_attributes};
+ghost use Rattle.export_rules.specs.Rewriting.{next_hop_set, rewritten, set_or, written};
+ghost use Rattle.export_rules.specs.declared.export.Rewrite.TheVariants.{External, Internal};
 
 use arrayvec::ArrayVec;
 use bgp_attr::{Attrs, AttrsToWrite, PrependedPath, prepend, write_attrs};
@@ -59,18 +59,6 @@ impl ExportPeer {
     {
         route.slot == self.slot || self.is_internal() && is_from_inside(route)
     }
-
-    fn own_number(&self) -> u32
-        ensures { result ≡ self.now.own.0 }
-    {
-        self.own.0
-    }
-
-    fn local_address(&self) -> u32
-        ensures { result ≡ self.now.local }
-    {
-        self.local
-    }
 }
 
 // Whether the route is a local network.
@@ -85,6 +73,59 @@ fn is_from_inside(route: &Candidate) -> bool
     ensures { result ≡ is_from_inside route.now }
 {
     !(route.external || is_local(route))
+}
+
+/// How the attributes of a route are changed on the way to a peer (RFC 4271 section 5.1).
+#[derive(Clone, Copy, Debug, PartialEq, Eq)]
+pub enum Rewrite {
+    /// To a peer in another AS.
+    External {
+        /// The AS that is put in front of the path.
+        own: Asn,
+        /// How often it is put there.
+        times: u16,
+        /// NEXT_HOP.
+        local: u32,
+        /// MULTI_EXIT_DISC, where a rule sets one.
+        med: Option<u32>,
+    },
+    /// To a peer in the own AS, which is told the path as it was received.
+    Internal {
+        /// NEXT_HOP, where it isn't told as it was received.
+        next_hop: Option<u32>,
+        /// MULTI_EXIT_DISC, where it isn't told as it was received.
+        med: Option<u32>,
+        /// LOCAL_PREF.
+        local_pref: u32,
+    },
+}
+
+/// How the attributes of the route are changed on the way to the peer by this action of its export policy; none where the
+/// route doesn't go there.
+// Own choice: a route doesn't go back to the peer that it came from.
+pub fn rewrite_of(route: &Candidate, peer: &ExportPeer, action: Action) -> Option<Rewrite>
+    ensures { (attrs : PathAttributes) → option_and_then (λ r. written r attrs) result ≡ export_at route.now attrs peer.now action }
+{
+    if peer.is_kept_from(route) {
+        return None;
+    }
+    match action {
+        Action::Reject => None,
+        Action::Accept { med, prepend, .. } => Some(if peer.is_internal() {
+            Rewrite::Internal {
+                next_hop: next_hop_set(route, peer),
+                med,
+                local_pref: local_pref_of(route),
+            }
+        } else {
+            Rewrite::External {
+                own: peer.own,
+                times: in_front(prepend),
+                local: peer.local,
+                med,
+            }
+        }),
+    }
 }
 
 /// Writes the attributes with which the route goes to the peer by this action of its export policy, and answers whether it
@@ -109,29 +150,62 @@ pub fn export_of<A: Allocator>(
     // The peer finds no fault with it.
     ensures accepted { OnTrue result (IsSender peer.now → IsComplete route.now attrs.now → AreAccepted (kind_between peer.now.asn peer.now.own) out.new.items) }
 {
-    if peer.is_kept_from(route) {
+    let Some(rewrite) = rewrite_of(route, peer, action) else {
         out.clear();
         return false;
+    };
+    attrs.is_sound();
+    are_numbers(peer, action);
+    rewrite.write(attrs, out)
+}
+
+// What the peer and the action say is of four octets.
+fn are_numbers(peer: &ExportPeer, action: Action)
+    ensures { AreNumbers peer.now (med_set action) }
+{
+    let _own = peer.own.0;
+    let _local = peer.local;
+    if let Action::Accept { med, .. } = action {
+        let _med = med;
     }
-    match action {
-        Action::Reject => {
-            out.clear();
-            false
-        }
-        Action::Accept { med, prepend, .. } => {
-            if peer.is_internal() {
-                write_fitting(&passed_inside(route, attrs, peer, med), out)
-            } else {
-                write_fitting(&exported(attrs, peer, med, in_front(prepend)), out)
-            }
+}
+
+impl Rewrite {
+    /// Writes the attributes of a route, so changed, in place of what `out` had. Answers false, and leaves `out` empty, where
+    /// a message of one prefix doesn't hold them.
+    pub fn write<A: Allocator>(&self, attrs: &Attrs<A>, out: &mut ArrayVec<u8, 4096>) -> bool
+        ensures written { Tells result out.new.items (written self.now attrs.now) }
+        ensures small { OnTrue result (array_vec_len out.new ≤ MAX_EXPORTED_ATTRIBUTES) }
+        ensures some { OnTrue result (0 < array_vec_len out.new) }
+        ensures travelling { OnTrue result (AreTravelling out.new.items) }
+    {
+        write_fitting(&self.rewritten(attrs), out)
+    }
+
+    // The attributes of a route, so changed.
+    fn rewritten<'a, A: Allocator>(&self, attrs: &'a Attrs<A>) -> AttrsToWrite<'a, A>
+        ensures value { attributes_of result ≡ rewritten self.now attrs.now }
+        ensures travelling { MayAllTravel attrs.now.unknown }
+    {
+        match *self {
+            Rewrite::External {
+                own,
+                times,
+                local,
+                med,
+            } => exported(attrs, own, times, local, med),
+            Rewrite::Internal {
+                next_hop,
+                med,
+                local_pref,
+            } => passed_inside(attrs, next_hop, med, local_pref),
         }
     }
 }
 
 // How often the own AS is put in front of the path: once, and as often more as the rule says.
 fn in_front(more: Option<u8>) -> u16
-    ensures value { result ≡ in_front more }
-    ensures some { 0 < result }
+    ensures { result ≡ in_front more }
 {
     match more {
         Some(more) => 1 + u16::from(more),
@@ -161,8 +235,7 @@ fn put_in_front<'a, A: Allocator>(
     asn: Asn,
     times: u16,
 ) -> Option<PrependedPath<'a, A>>
-    ensures value { path_of result ≡ option_map (λ path. prepended path asn times) attrs.now.as_path }
-    ensures lawful { MatchOption attrs.now.as_path ⊤ (AllByRecursion IsSegment) }
+    ensures { path_of result ≡ option_map (λ path. prepended path asn times) attrs.now.as_path }
 {
     match attrs.as_path() {
         Some(path) => Some(prepend(path, asn, times)),
@@ -173,19 +246,18 @@ fn put_in_front<'a, A: Allocator>(
 // The attributes as they go on to an external peer (RFC 4271 sections 5.1.2 to 5.1.7).
 fn exported<'a, A: Allocator>(
     attrs: &'a Attrs<A>,
-    peer: &ExportPeer,
-    med: Option<u32>,
+    own: Asn,
     times: u16,
+    local: u32,
+    med: Option<u32>,
 ) -> AttrsToWrite<'a, A>
-    ensures value { attributes_of result ≡ exported_of attrs.now peer.now med times }
-    ensures travelling { MayAllTravel (exported_of attrs.now peer.now med times).unknown }
-    ensures good { IsSender peer.now → IsSome attrs.now.origin → IsSome attrs.now.as_path → 0 < times → AreGood (External peer.now.own) (exported_of attrs.now peer.now med times) }
+    ensures value { attributes_of result ≡ rewritten (External own times local med) attrs.now }
+    ensures travelling { MayAllTravel attrs.now.unknown }
 {
-    let own = Asn(peer.own_number());
     AttrsToWrite {
         origin: attrs.origin(),
         as_path: put_in_front(attrs, own, times),
-        next_hop: Some(peer.local_address()),
+        next_hop: Some(local),
         multi_exit_disc: med,
         local_pref: None,
         atomic_aggregate: attrs.atomic_aggregate(),
@@ -196,59 +268,50 @@ fn exported<'a, A: Allocator>(
 
 // The attributes as they go on to an internal peer (RFC 4271 sections 5.1.2 to 5.1.7).
 fn passed_inside<'a, A: Allocator>(
-    route: &Candidate,
     attrs: &'a Attrs<A>,
-    peer: &ExportPeer,
+    next_hop: Option<u32>,
     med: Option<u32>,
+    local_pref: u32,
 ) -> AttrsToWrite<'a, A>
-    ensures value { attributes_of result ≡ passed_inside route.now attrs.now peer.now med }
-    ensures travelling { MayAllTravel (passed_inside route.now attrs.now peer.now med).unknown }
-    ensures good { IsSender peer.now → IsComplete route.now attrs.now → AreGood Internal (passed_inside route.now attrs.now peer.now med) }
+    ensures value { attributes_of result ≡ rewritten (Internal next_hop med local_pref) attrs.now }
+    ensures travelling { MayAllTravel attrs.now.unknown }
 {
     AttrsToWrite {
         origin: attrs.origin(),
-        as_path: put_in_front(attrs, Asn(peer.own_number()), 0),
-        next_hop: next_hop_inside(route, attrs, peer),
-        multi_exit_disc: med_inside(med, attrs),
-        local_pref: Some(local_pref_of(route)),
+        as_path: put_in_front(attrs, Asn(0), 0),
+        next_hop: set_or(next_hop, attrs.next_hop()),
+        multi_exit_disc: set_or(med, attrs.multi_exit_disc()),
+        local_pref: Some(local_pref),
         atomic_aggregate: attrs.atomic_aggregate(),
         aggregator: attrs.aggregator(),
         unknown: attrs.unknown(),
     }
 }
 
-// NEXT_HOP inside the own AS: as it was received, and of a local network the own address.
-fn next_hop_inside<A: Allocator>(
-    route: &Candidate,
-    attrs: &Attrs<A>,
-    peer: &ExportPeer,
-) -> Option<u32>
-    ensures value { result ≡ next_hop_inside route.now attrs.now peer.now }
-    ensures small { MatchOption result ⊤ (λ address. address < 2 ^ 32) }
-    ensures host { is_local route.now ≡ false → MatchOption result ⊤ (λ address. is_host address ≡ true) }
+// NEXT_HOP that is set inside the own AS: the own address, of a local network.
+fn next_hop_set(route: &Candidate, peer: &ExportPeer) -> Option<u32>
+    ensures { result ≡ next_hop_set route.now peer.now }
 {
     if is_local(route) {
-        Some(peer.local_address())
+        Some(peer.local)
     } else {
-        attrs.next_hop()
+        None
     }
 }
 
-// MULTI_EXIT_DISC inside the own AS: what a rule sets, and else as it was received.
-fn med_inside<A: Allocator>(med: Option<u32>, attrs: &Attrs<A>) -> Option<u32>
-    ensures value { result ≡ med_inside med attrs.now.multi_exit_disc }
-    ensures small { MatchOption result ⊤ (λ n. n < 2 ^ 32) }
+// What is set, and else what was received.
+fn set_or(set: Option<u32>, received: Option<u32>) -> Option<u32>
+    ensures { result ≡ set_or set received }
 {
-    match med {
-        Some(med) => Some(med),
-        None => attrs.multi_exit_disc(),
+    match set {
+        Some(set) => Some(set),
+        None => received,
     }
 }
 
 // LOCAL_PREF: the degree of preference, and of a local network 100.
 fn local_pref_of(route: &Candidate) -> u32
-    ensures value { result ≡ local_pref_of route.now }
-    ensures small { result < 2 ^ 32 }
+    ensures { result ≡ local_pref_of route.now }
 {
     if is_local(route) {
         return LOCAL_NETWORK_PREF;

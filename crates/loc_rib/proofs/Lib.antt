@@ -1,4 +1,3 @@
-pub mod EndedCounts
 pub mod EndedSlots
 pub mod RowFinds
 pub mod RowSteps

@@ -1,5 +1,5 @@
 -- What a call makes of the row of one prefix.
-use Rattle.std.proofs.Common.{◌≡◌, ◌<◌, ℕ, Bool, true, false, not, cond, ◌&&◌, List, [], ◌∷◌, ◌++◌, length, nat_eq, All, Option, Some, None, Result, Ok, Err, OnOk, OnErr, is_some, refl, sym, ap, ◌∙◌, subst, arith}
+use Rattle.std.proofs.Common.{◌≡◌, ◌<◌, ℕ, Bool, true, false, not, cond, ◌&&◌, List, [], ◌∷◌, ◌++◌, length, nat_eq, All, Option, Some, None, Result, Ok, Err, IfOk, OnOk, OnErr, is_some, refl, sym, ap, ◌∙◌, subst, arith}
 use Rattle.std.proofs.lemmas.Cmp.{nat_cmp_total}
 use Rattle.std.specs.BTreeMap.{is_at}
 use Rattle.std.specs.Map.{lookup}
@@ -232,3 +232,12 @@ through_none (Some x) P Q h f = tt
 pub through_some : {T : Type 0} (r : Option T) (P Q : T → Type 0) → IfSome r P → ((x : T) → P x → Q x) → IfSome r Q
 through_some None P Q h f = tt
 through_some (Some x) P Q h f = f x h
+
+-- what follows where a success answers nothing, or something
+pub through_brought : {T E : Type 0} (r : Result (Option T) E) (P Q : Type 0) → IfOk r (λ back. IfNone back P) → (P → Q) → IfOk r (λ back. IfNone back Q)
+through_brought (Ok back) P Q h f = through_none back P Q h f
+through_brought (Err e) P Q h f = tt
+
+pub through_back : {T E : Type 0} (r : Result (Option T) E) (P Q : T → Type 0) → IfOk r (λ back. IfSome back P) → ((x : T) → P x → Q x) → IfOk r (λ back. IfSome back Q)
+through_back (Ok back) P Q h f = through_some back P Q h f
+through_back (Err e) P Q h f = tt

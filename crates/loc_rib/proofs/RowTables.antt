@@ -1,6 +1,5 @@
 -- What the rows are seen as, and what a change of one row makes of them.
 use Rattle.std.proofs.Common.{◌≡◌, ◌≢◌, ℕ, Bool, true, false, cond, nat_eq, List, [], ◌∷◌, All, Option, Some, None, is_some, option_map, option_and_then, IfSome, IsSome, refl, sym, ap, ◌∙◌, subst}
-use Rattle.std.proofs.lemmas.List.Elements.{All-head, All-tail}
 use Rattle.std.proofs.lemmas.Map.Made.{keys_of-map_values, lookup-map_values}
 use Rattle.std.proofs.lemmas.Map.Views.{All-map-remove_entry, All-values-insert_entry, All-values-set_value, IfSome-lookup_from_All}
 use Rattle.std.specs.BTreeMap.{is_at}
@@ -24,7 +23,7 @@ use Rattle.prefix_trie.specs.TrieMap.{IsRising, found, with_entry}
 use Rattle.rib_in.proofs.Ordered.{insert-same}
 use Rattle.rib_in.proofs.SlotWalks.{some_route}
 use Rattle.rib_in.specs.PrefixRoutes.{IsAnnounced, is_only}
-use Rattle.rib_in.specs.LatestRoutes.{HasNoEmptyList, HasRoute, is_route, route_among, route_at, route_in}
+use Rattle.rib_in.specs.LatestRoutes.{HasRoute, is_route, route_among, route_at, route_in}
 use Rattle.loc_rib.specs.PrefixRows.{AreRows, IsRow, PrefixRow, RowTable, adj_in_of, best_of, book_of, offer_of, route_of}
 use Rattle.loc_rib.proofs.RowSteps.{best_routed, is_some-from, none_there, offer_routed, only_offer, only_route, slot_test}
 
@@ -111,11 +110,6 @@ module _ (rows : RowTable) where
 
   pub row_found : AreRows rows → (p : Prefix) (row : PrefixRow) → found rows p ≡ Some row → IsRow row
   row_found are p row is = subst (λ o. IfSome o IsRow) is (IfSome-lookup_from_All IsRow (is_at (prefix_cmp p)) rows are.1)
-
--- each prefix has a route
-pub no_empty_row : (rows : RowTable) → All IsRow (values_of rows) → HasNoEmptyList (adj_in_of rows)
-no_empty_row [] all = tt
-no_empty_row (e ∷ es) all = ((All-head IsRow e.1 (values_of es) all).any, no_empty_row es (All-tail IsRow e.1 (values_of es) all))
 
 best_case : (o : Option PrefixRow) → IfSome o IsRow → IsBestOf (offer_of o) (best_of o)
 best_case None is = λ s. refl

@@ -19,6 +19,10 @@ started = record { adj_in = []; book = []; chosen = 0 }
 abbrev pub RisesBy : ℕ → RibTables → RibTables → Type 0
 RisesBy most old new = (old.chosen ≤ new.chosen) × (new.chosen ≤ old.chosen + most)
 
--- a best route of the prefix that is another now was chosen, and the count has it, unless it stands at its greatest
+-- one more choice is counted, unless the count stands at its greatest
+abbrev pub CountsOne : RibTables → RibTables → Type 0
+CountsOne old new = new.chosen ≡ min (old.chosen + 1) (2 ^ 64 - 1)
+
+-- a best route of the prefix that is another now was chosen, and the count has it
 abbrev pub CountsAnother : Prefix → RibTables → RibTables → Type 0
-CountsAnother prefix old new = best_at (rows_of new.book) prefix ≢ best_at (rows_of old.book) prefix → new.chosen ≡ min (old.chosen + 1) (2 ^ 64 - 1)
+CountsAnother prefix old new = best_at (rows_of new.book) prefix ≢ best_at (rows_of old.book) prefix → CountsOne old new

@@ -3,9 +3,10 @@
 //! `Ribs` keeps a row for each prefix that has a route (RFC 4271 section 3.2): the routes by slot, and a book with a
 //! place for the candidate of each, so that a change of candidates takes no memory, and a candidate goes with its route.
 //! The rows stand in a map by prefix, so that a call finds the routes of a prefix and their best one by one look-up. A
-//! best route is chosen again where a candidate of its prefix changed, and nowhere else, and each choice is counted.
-//! Which candidate a route makes is decided above. A row goes with its last route. Only `announce` and `bring` take
-//! memory, and where they get none all stays as it was. The routes of one slot are found by going along the prefixes,
+//! best route is chosen again where a candidate of its prefix changed, and nowhere else: the count of choices rises by
+//! one then, unless it stands at its greatest, and stays in each other call. Which candidate a route makes is decided
+//! above. A row goes with its last route. Where memory is refused to `announce` or `bring` all stays as it was, and
+//! `announce` needs none where a route replaces another. The routes of one slot are found by going along the prefixes,
 //! those of other slots too.
 #![tactic(auto)]
 

@@ -13,7 +13,7 @@ ghost use Rattle.net_prefix.specs.declared.prefix.Prefix.{Prefix as ThePrefix};
 ghost use Rattle.rib_in.specs.LatestRoutes.{HasRoute, is_route, route_at, routes_of};
 ghost use Rattle.prefix_trie.specs.TrieMap.{IsRising};
 ghost use Rattle.prefix_trie.specs.TrieWalks.{IsNext, all_after};
-ghost use Rattle.loc_rib.specs.RibTables.{CountsAnother, RisesBy, started};
+ghost use Rattle.loc_rib.specs.RibTables.{CountsAnother, CountsOne, RisesBy, started};
 
 use crate::row_map::{
     RowMap, announce_in, bring_in, change_in, first_best, first_of_slot, withdraw_in,
@@ -83,6 +83,7 @@ impl<A: Allocator + Clone, B: Book<A>> Ribs<A, B> {
         ensures chosen { RisesBy 1 self.old self.new }
         ensures another { OnOk result (CountsAnother prefix self.old self.new) }
         ensures same { offer_at self.old.book slot prefix ≡ candidate → self.new.chosen ≡ self.old.chosen }
+        ensures made { OnOk result (offer_at self.old.book slot prefix ≢ candidate → CountsOne self.old self.new) }
         ensures refused { OnErr result (self.new.chosen ≡ self.old.chosen) }
     {
         announce_in(
@@ -96,20 +97,21 @@ impl<A: Allocator + Clone, B: Book<A>> Ribs<A, B> {
         )
     }
 
-    /// A slot without a route to the prefix has this one from now on, which makes no candidate yet. Where memory is refused,
-    /// all is as before.
+    /// A slot without a route to the prefix has this one from now on, which makes no candidate yet. Where it has one nothing
+    /// changes, and the attributes come back. Where memory is refused, all is as before.
     pub fn bring(
         &mut self,
         slot: u8,
         prefix: Prefix,
         attrs: Rc<Attrs<A>, A>,
-    ) -> Result<(), AllocError>
-        requires { route_at self.old.adj_in slot prefix ≡ None }
-        ensures routes { OnOk result ((s : ℕ) (p : ThePrefix) → route_at self.new.adj_in s p ≡ (if is_route slot prefix s p then Some attrs.value else route_at self.old.adj_in s p)) }
+    ) -> Result<Option<Rc<Attrs<A>, A>>, AllocError>
+        ensures absent { IfOk result (λ back. IfNone back (route_at self.old.adj_in slot prefix ≡ None)) }
+        ensures routes { IfOk result (λ back. IfNone back ((s : ℕ) (p : ThePrefix) → route_at self.new.adj_in s p ≡ (if is_route slot prefix s p then Some attrs.value else route_at self.old.adj_in s p))) }
+        ensures back { IfOk result (λ back. IfSome back (λ other. (self.new ≡ self.old) × (other.value ≡ attrs.value) × IsSome (route_at self.old.adj_in slot prefix))) }
         ensures err { OnErr result ((s : ℕ) (p : ThePrefix) → route_at self.new.adj_in s p ≡ route_at self.old.adj_in s p) }
         ensures offers { (s : ℕ) (p : ThePrefix) → offer_at self.new.book s p ≡ offer_at self.old.book s p }
         ensures rows { rows_of self.new.book ≡ rows_of self.old.book }
-        ensures other { IfSome (best_at (rows_of self.old.book) prefix) (λ c. c.slot ≢ slot) }
+        ensures other { IfOk result (λ back. IfNone back (IfSome (best_at (rows_of self.old.book) prefix) (λ c. c.slot ≢ slot))) }
         ensures chosen { self.new.chosen ≡ self.old.chosen }
     {
         bring_in(&mut self.rows, &self.alloc, slot, prefix, attrs)
@@ -127,23 +129,9 @@ impl<A: Allocator + Clone, B: Book<A>> Ribs<A, B> {
         ensures another { CountsAnother prefix self.old self.new }
         ensures unrouted { route_at self.old.adj_in slot prefix ≡ None → self.new.chosen ≡ self.old.chosen }
         ensures never { offer_at self.old.book slot prefix ≡ None → self.new.chosen ≡ self.old.chosen }
+        ensures gone { offer_at self.old.book slot prefix ≢ None → CountsOne self.old self.new }
     {
         withdraw_in(&mut self.rows, &mut self.meter, slot, prefix);
-    }
-
-    /// The slot's session has ended: none of its routes is kept.
-    pub fn drop_slot(&mut self, slot: u8)
-        ensures routes { (s : ℕ) (p : ThePrefix) → route_at self.new.adj_in s p ≡ (if s == slot then None else route_at self.old.adj_in s p) }
-        ensures offers { (s : ℕ) (p : ThePrefix) → offer_at self.new.book s p ≡ (if s == slot then None else offer_at self.old.book s p) }
-        // A best route is chosen once at most for each route of the slot.
-        ensures chosen { RisesBy (length (routes_of slot self.old.adj_in)) self.old self.new }
-    {
-        let mut after = None;
-        while let Some(prefix) = self.slot_prefix_after(slot, after) {
-            self.withdraw(slot, prefix);
-            after = Some(prefix);
-        }
-        self.is_chosen();
     }
 
     /// Changes candidates of routes to a prefix, and chooses its best one again where one of them is another now.
@@ -157,6 +145,7 @@ impl<A: Allocator + Clone, B: Book<A>> Ribs<A, B> {
         ensures chosen { RisesBy 1 self.old self.new }
         ensures another { CountsAnother prefix self.old self.new }
         ensures same { ((s : ℕ) → changed changes.now s (offer_at self.old.book s prefix) ≡ offer_at self.old.book s prefix) → self.new.chosen ≡ self.old.chosen }
+        ensures made { (s : ℕ) → changed changes.now s (offer_at self.old.book s prefix) ≢ offer_at self.old.book s prefix → CountsOne self.old self.new }
     {
         change_in(&mut self.rows, &mut self.meter, prefix, changes);
     }
@@ -284,9 +273,9 @@ impl<A: Allocator + Clone, B: Book<A>> Ribs<A, B> {
     }
 
     /// The best route of a prefix, with its attributes.
-    pub fn best_route(&self, prefix: Prefix) -> Option<(Candidate, &Attrs<A>)>
+    pub fn best_route(&self, prefix: Prefix) -> Option<(Candidate, &Rc<Attrs<A>, A>)>
         ensures none { IfNone result (best_at (rows_of self.now.book) prefix ≡ None) }
-        ensures some { IfSome result (λ r. (best_at (rows_of self.now.book) prefix ≡ Some r.0) × (route_at self.now.adj_in r.0.slot prefix ≡ Some r.1.now)) }
+        ensures some { IfSome result (λ r. (best_at (rows_of self.now.book) prefix ≡ Some r.0) × (route_at self.now.adj_in r.0.slot prefix ≡ Some r.1.now.value)) }
     {
         match self.rows.get(&prefix) {
             Some(row) => row.best_route(),

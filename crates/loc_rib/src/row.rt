@@ -44,7 +44,10 @@ impl<A: Allocator + Clone, B: Book<A>> Row<A, B> {
     pub(crate) fn get(&self, slot: u8) -> Option<&Attrs<A>>
         ensures { option_copied result ≡ route_in self.now.routes slot }
     {
-        self.routes.get(slot)
+        match self.routes.get(slot) {
+            Some(attrs) => Some(attrs),
+            None => None,
+        }
     }
 
     /// Whether no other slot has a route.
@@ -62,13 +65,36 @@ impl<A: Allocator + Clone, B: Book<A>> Row<A, B> {
     }
 
     /// The best candidate, and the attributes of its route.
-    pub(crate) fn best_route(&self) -> Option<(Candidate, &Attrs<A>)>
+    pub(crate) fn best_route(&self) -> Option<(Candidate, &Rc<Attrs<A>, A>)>
         ensures none { IfNone result (self.now.kept.best ≡ None) }
-        ensures some { IfSome result (λ r. (self.now.kept.best ≡ Some r.0) × (route_in self.now.routes r.0.slot ≡ Some r.1.now)) }
+        ensures some { IfSome result (λ r. (self.now.kept.best ≡ Some r.0) × (route_in self.now.routes r.0.slot ≡ Some r.1.now.value)) }
     {
         let best = self.book.best()?;
         let attrs = self.routes.get(best.slot)?;
         Some((best, attrs))
+    }
+
+    /// A slot without a route has this one from now on, which makes no candidate yet. Where it has one nothing changes, and
+    /// the attributes come back.
+    pub(crate) fn bring(
+        &mut self,
+        alloc: &A,
+        slot: u8,
+        attrs: Rc<Attrs<A>, A>,
+    ) -> Result<Option<Rc<Attrs<A>, A>>, AllocError>
+        ensures brought { IfOk result (λ back. IfNone back ((route_in self.old.routes slot ≡ None) × IsAnnounced slot attrs.value self.old.routes self.new.routes)) }
+        ensures back { IfOk result (λ back. IfSome back (λ other. (self.new ≡ self.old) × (other.value ≡ attrs.value) × IsSome (route_in self.old.routes slot))) }
+        ensures offers { (s : ℕ) → candidate_of self.new.kept.places s ≡ candidate_of self.old.kept.places s }
+        ensures best { self.new.kept.best ≡ self.old.kept.best }
+        ensures err { OnErr result (self.new ≡ self.old) }
+        ensures row { IsRow self.new }
+    {
+        let _ = &self.routes;
+        if self.get(slot).is_some() {
+            return Ok(Some(attrs));
+        }
+        self.put(alloc, slot, attrs)?;
+        Ok(None)
     }
 
     /// The slot has this route from now on. If it had none, this one makes no candidate yet.
@@ -89,9 +115,7 @@ impl<A: Allocator + Clone, B: Book<A>> Row<A, B> {
         let Err(attrs) = self.routes.replace(slot, attrs) else {
             return Ok(());
         };
-        let Ok(route) = PrefixRoutes::boxed(alloc, slot, attrs) else {
-            return Err(AllocError);
-        };
+        let route = PrefixRoutes::boxed(alloc, slot, attrs)?;
         self.book.add(slot)?;
         self.routes.put(route);
         Ok(())
@@ -115,6 +139,7 @@ impl<A: Allocator + Clone, B: Book<A>> Row<A, B> {
         ensures counted { (meter.old.count ≤ meter.new.count) × (meter.new.count ≤ meter.old.count + 1) }
         ensures another { self.new.kept.best ≢ self.old.kept.best → meter.new.count ≡ min (meter.old.count + 1) (2 ^ 64 - 1) }
         ensures same { candidate_of self.old.kept.places slot ≡ candidate → meter.new.count ≡ meter.old.count }
+        ensures made { OnOk result (candidate_of self.old.kept.places slot ≢ candidate → meter.new.count ≡ min (meter.old.count + 1) (2 ^ 64 - 1)) }
         ensures row { IsRow self.new }
     {
         self.put(alloc, slot, attrs)?;
@@ -132,6 +157,7 @@ impl<A: Allocator + Clone, B: Book<A>> Row<A, B> {
         ensures counted { (meter.old.count ≤ meter.new.count) × (meter.new.count ≤ meter.old.count + 1) }
         ensures another { self.new.kept.best ≢ self.old.kept.best → meter.new.count ≡ min (meter.old.count + 1) (2 ^ 64 - 1) }
         ensures same { candidate_of self.old.kept.places slot ≡ candidate → meter.new.count ≡ meter.old.count }
+        ensures made { candidate_of self.old.kept.places slot ≢ candidate → meter.new.count ≡ min (meter.old.count + 1) (2 ^ 64 - 1) }
         ensures row { IsRow self.new }
     {
         let change = Change { slot, candidate };
@@ -148,6 +174,7 @@ impl<A: Allocator + Clone, B: Book<A>> Row<A, B> {
         ensures counted { (meter.old.count ≤ meter.new.count) × (meter.new.count ≤ meter.old.count + 1) }
         ensures another { self.new.kept.best ≢ self.old.kept.best → meter.new.count ≡ min (meter.old.count + 1) (2 ^ 64 - 1) }
         ensures same { ((s : ℕ) → changed changes.now s (candidate_of self.old.kept.places s) ≡ candidate_of self.old.kept.places s) → meter.new.count ≡ meter.old.count }
+        ensures made { (s : ℕ) → changed changes.now s (candidate_of self.old.kept.places s) ≢ candidate_of self.old.kept.places s → meter.new.count ≡ min (meter.old.count + 1) (2 ^ 64 - 1) }
         ensures row { IsRow self.new }
     {
         self.book.change(meter, changes);
@@ -161,6 +188,7 @@ impl<A: Allocator + Clone, B: Book<A>> Row<A, B> {
         ensures counted { (meter.old.count ≤ meter.new.count) × (meter.new.count ≤ meter.old.count + 1) }
         ensures another { self.new.kept.best ≢ self.old.kept.best → meter.new.count ≡ min (meter.old.count + 1) (2 ^ 64 - 1) }
         ensures never { candidate_of self.old.kept.places slot ≡ None → meter.new.count ≡ meter.old.count }
+        ensures gone { candidate_of self.old.kept.places slot ≢ None → meter.new.count ≡ min (meter.old.count + 1) (2 ^ 64 - 1) }
         ensures row { IsRow self.new }
     {
         self.book.leave(meter, slot);
@@ -173,6 +201,7 @@ impl<A: Allocator + Clone, B: Book<A>> Row<A, B> {
         ensures counted { (meter.old.count ≤ meter.new.count) × (meter.new.count ≤ meter.old.count + 1) }
         ensures another { self.kept.best ≢ None → meter.new.count ≡ min (meter.old.count + 1) (2 ^ 64 - 1) }
         ensures never { candidate_of self.kept.places slot ≡ None → meter.new.count ≡ meter.old.count }
+        ensures gone { candidate_of self.kept.places slot ≢ None → meter.new.count ≡ min (meter.old.count + 1) (2 ^ 64 - 1) }
     {
         let mut book = self.book;
         book.leave(meter, slot);

@@ -1,5 +1,5 @@
 //! The rows by prefix.
-ghost use Rattle.std.specs.Prelude.{◌≡◌, ◌≢◌, ◌≤◌, ◌+◌, ◌-◌, ◌^◌, ◌==◌, ℕ, None, false, All, IfSome, IsSome, OnErr, OnOk, min, slice_get, if◌then◌else◌};
+ghost use Rattle.std.specs.Prelude.{◌≡◌, ◌≢◌, ◌≤◌, ◌+◌, ◌-◌, ◌^◌, ◌==◌, ℕ, None, false, All, IfNone, IfOk, IfSome, IsSome, OnErr, OnOk, min, slice_get, if◌then◌else◌};
 ghost use Rattle.decision.specs.BookContents.{AreApart, changed, is_prefix, rows_of};
 ghost use Rattle.net_prefix.specs.declared.prefix.Prefix.{Prefix as ThePrefix};
 ghost use Rattle.prefix_trie.specs.TrieMap.{found};
@@ -41,6 +41,7 @@ pub(crate) fn announce_in<A: Allocator + Clone, B: Book<A>>(
     ensures counted { (meter.old.count ≤ meter.new.count) × (meter.new.count ≤ meter.old.count + 1) }
     ensures another { best_of (found rows.new.entries prefix) ≢ best_of (found rows.old.entries prefix) → meter.new.count ≡ min (meter.old.count + 1) (2 ^ 64 - 1) }
     ensures same { offer_of (found rows.old.entries prefix) slot ≡ candidate → meter.new.count ≡ meter.old.count }
+    ensures made { OnOk result (offer_of (found rows.old.entries prefix) slot ≢ candidate → meter.new.count ≡ min (meter.old.count + 1) (2 ^ 64 - 1)) }
 {
     match rows.entry(prefix) {
         Ok(Entry::Occupied(entry)) => entry
@@ -55,27 +56,29 @@ pub(crate) fn announce_in<A: Allocator + Clone, B: Book<A>>(
     }
 }
 
-// The slot has this route to the prefix from now on. If it had none, this one makes no candidate yet.
+// A slot without a route to the prefix has this one from now on, which makes no candidate yet. Where it has one nothing
+// changes, and the attributes come back.
 pub(crate) fn bring_in<A: Allocator + Clone, B: Book<A>>(
     rows: &mut RowMap<A, B>,
     alloc: &A,
     slot: u8,
     prefix: Prefix,
     attrs: Rc<Attrs<A>, A>,
-) -> Result<(), AllocError>
+) -> Result<Option<Rc<Attrs<A>, A>>, AllocError>
     requires { AreRows rows.old.entries }
     ensures rows { AreRows rows.new.entries }
     ensures others { (p : ThePrefix) → is_prefix prefix p ≡ false → found rows.new.entries p ≡ found rows.old.entries p }
-    ensures routes { OnOk result ((s : ℕ) → route_of (found rows.new.entries prefix) s ≡ (if slot == s then Some attrs.value else route_of (found rows.old.entries prefix) s)) }
+    ensures brought { IfOk result (λ back. IfNone back ((route_of (found rows.old.entries prefix) slot ≡ None) × ((s : ℕ) → route_of (found rows.new.entries prefix) s ≡ (if slot == s then Some attrs.value else route_of (found rows.old.entries prefix) s)))) }
+    ensures back { IfOk result (λ back. IfSome back (λ other. (rows.new.entries ≡ rows.old.entries) × (other.value ≡ attrs.value) × IsSome (route_of (found rows.old.entries prefix) slot))) }
     ensures offers { (s : ℕ) → offer_of (found rows.new.entries prefix) s ≡ offer_of (found rows.old.entries prefix) s }
     ensures best { rows_of (book_of rows.new.entries) ≡ rows_of (book_of rows.old.entries) }
     ensures err { OnErr result (rows.new.entries ≡ rows.old.entries) }
 {
     match rows.entry(prefix) {
-        Ok(Entry::Occupied(entry)) => entry.into_mut().put(alloc, slot, attrs),
+        Ok(Entry::Occupied(entry)) => entry.into_mut().bring(alloc, slot, attrs),
         Ok(vacant) => {
             vacant.or_try_insert_with(|| Row::of(alloc, slot, attrs))?;
-            Ok(())
+            Ok(None)
         }
         Err(_) => Err(AllocError),
     }
@@ -99,6 +102,7 @@ pub(crate) fn change_in<A: Allocator + Clone, B: Book<A>>(
     ensures counted { (meter.old.count ≤ meter.new.count) × (meter.new.count ≤ meter.old.count + 1) }
     ensures another { best_of (found rows.new.entries prefix) ≢ best_of (found rows.old.entries prefix) → meter.new.count ≡ min (meter.old.count + 1) (2 ^ 64 - 1) }
     ensures same { ((s : ℕ) → changed changes.now s (offer_of (found rows.old.entries prefix) s) ≡ offer_of (found rows.old.entries prefix) s) → meter.new.count ≡ meter.old.count }
+    ensures made { (s : ℕ) → changed changes.now s (offer_of (found rows.old.entries prefix) s) ≢ offer_of (found rows.old.entries prefix) s → meter.new.count ≡ min (meter.old.count + 1) (2 ^ 64 - 1) }
 {
     let Some(row) = rows.get_mut(&prefix) else {
         return;
@@ -121,6 +125,7 @@ pub(crate) fn withdraw_in<A: Allocator + Clone, B: Book<A>>(
     ensures counted { (meter.old.count ≤ meter.new.count) × (meter.new.count ≤ meter.old.count + 1) }
     ensures another { best_of (found rows.new.entries prefix) ≢ best_of (found rows.old.entries prefix) → meter.new.count ≡ min (meter.old.count + 1) (2 ^ 64 - 1) }
     ensures never { offer_of (found rows.old.entries prefix) slot ≡ None → meter.new.count ≡ meter.old.count }
+    ensures gone { offer_of (found rows.old.entries prefix) slot ≢ None → meter.new.count ≡ min (meter.old.count + 1) (2 ^ 64 - 1) }
 {
     // `entry` would take memory where the prefix isn't there.
     let Some(row) = rows.get_mut(&prefix) else {

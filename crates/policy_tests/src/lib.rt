@@ -1,12 +1,8 @@
-//! Tests alone, of commands, policies and export: what no answer of a script shows. A file is named for what it tests. What
-//! policies make of routes are scripts of the crate play_scripts.
+//! Tests alone: what is told of lines that command nothing, and each growth of the policies refused in turn. A file is named for
+//! what it tests.
 #![tactic(auto)]
 
 #[cfg(test)]
 mod causes;
-#[cfg(test)]
-mod commands;
-#[cfg(test)]
-mod export;
 #[cfg(test)]
 mod policies;

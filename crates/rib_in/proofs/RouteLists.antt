@@ -1,21 +1,21 @@
 -- What holds of the routes to one prefix when one is put in, replaced or taken out.
-use Rattle.std.proofs.Common.{◌≡◌, ℕ, ◌<◌, ◌==◌, Bool, true, false, not, cond, [], ◌∷◌, Option, Some, None, Box, length, refl, sym, ap, subst, ◌∙◌, arith}
+use Rattle.std.proofs.Common.{◌≡◌, ℕ, ◌<◌, ◌==◌, Bool, true, false, not, cond, [], ◌∷◌, Option, Some, None, IsSome, Box, length, refl, sym, ap, subst, ◌∙◌, arith}
 use Rattle.std.proofs.lemmas.Bool.{eqb-true}
 use Rattle.std.proofs.lemmas.Bool.Decides.{nat_tests}
-use Rattle.std.proofs.lemmas.Cmp.{nat_cmp_total}
-use Rattle.std.proofs.lemmas.Map.{keys-set_value}
+use Rattle.std.proofs.lemmas.Cmp.{eq_by_cmp_equiv, nat_cmp_total}
+use Rattle.std.proofs.lemmas.Map.{keys-set_value, lookup-set_value}
 use Rattle.std.proofs.lemmas.Map.Entries.{length-keys_of}
 use Rattle.std.specs.BTreeMap.{is_at, insert_entry}
 use Rattle.std.specs.List.{AllByRecursion}
 use Rattle.std.specs.List.Sorted.{IsStrictlySortedBy}
 use Rattle.std.specs.Map.{keys_of, set_value}
 use Rattle.std.specs.Option.{is_some}
-use Rattle.std.specs.Ordering.{nat_cmp}
+use Rattle.std.specs.Ordering.{is_eq, nat_cmp}
 use Rattle.std.specs.declared.cmp.Ordering.TheVariants.{Less, Greater}
 use Rattle.bgp_attr.specs.PathAttributes.{PathAttributes}
 use Rattle.rib_in.specs.LatestRoutes.{RouteList, route_in}
-use Rattle.rib_in.specs.PrefixRoutes.{AreRoutes, HasRisingSlots, higher_of, is_next_only, is_only, others_of}
-use Rattle.bgp_attr.proofs.EntryLists.{some-insert_entry, sorted-insert_entry}
+use Rattle.rib_in.specs.PrefixRoutes.{AreRoutes, HasRisingSlots, IsAnnounced, higher_of, is_next_only, is_only, others_of}
+use Rattle.bgp_attr.proofs.EntryLists.{equal_from, lookup-insert_entry, some-insert_entry, sorted-insert_entry}
 use Rattle.rib_in.proofs.Ordered.{sorted-others}
 
 -- the first slot, if there is one
@@ -81,7 +81,18 @@ replaced s a x test b c h is =
     let long : length c.value ≡ length b.value = sym (length-keys_of c.value) ∙ ap length keys ∙ length-keys_of b.value in
     record { any = rw long h.any; rising = rw keys h.rising }
 
+is_some-there : (o : Option PathAttributes) → is_some o ≡ true → IsSome o
+is_some-there None h = absurd cc
+is_some-there (Some a) h = refl
+
+pub other_announced : (slot : ℕ) (a : PathAttributes) (routes : RouteList) → is_some (route_in routes slot) ≡ true → IsAnnounced slot a routes (set_value (is_at (nat_cmp slot)) routes a)
+other_announced slot a routes has s =
+    lookup-set_value (eq_by_cmp_equiv nat_cmp_total) (is_at (nat_cmp slot)) (λ x y at. ap is_eq (nat_cmp_total.congr slot x y (equal_from (nat_cmp slot x) at))) s a routes (is_some-there (route_in routes slot) has)
+
 -- ---- putting in
+pub one_announced : (slot : ℕ) (a : PathAttributes) (routes : RouteList) → IsAnnounced slot a routes (insert_entry nat_cmp routes slot a)
+one_announced slot a routes s = lookup-insert_entry nat_cmp_total s slot a routes
+
 pub put_before : {A : Type 0} (k s : ℕ) (a x : PathAttributes) (es : RouteList) (b : Box RouteList A) → nat_cmp k s ≡ Less → HasRisingSlots ((s, x) ∷ es) → b.value ≡ (s, x) ∷ es → AreRoutes k a (Some b)
 put_before k s a x es b less rising is = record {
   any = rw is (omega arith);
@@ -95,6 +106,16 @@ put_behind k s a x es b greater rising is = record {
 }
 
 -- ---- taking out
+-- the only route is the slot's, and the first
+pub only_apart : (s t : ℕ) (a : PathAttributes) (es : RouteList) → (s ≡ t → ⊥) → is_only t ((s, a) ∷ es) ≡ true → ⊥
+only_apart s t a es apart only =
+    let more : others_of t ((s, a) ∷ es) ≡ (s, a) ∷ others_of t es = rw (not_at s t apart) refl in
+    let none : others_of t ((s, a) ∷ es) ≡ [] = no_length (others_of t ((s, a) ∷ es)) only in
+    cc
+
+pub only_higher : {A : Type 0} (s t : ℕ) (a : PathAttributes) (b : Box RouteList A) → AreRoutes s a (Some b) → s ≡ t → is_only t ((s, a) ∷ b.value) ≡ true → ⊥
+only_higher s t a b h same only = let clash : false ≡ true = only_first s t a (Some b) false h same refl ∙ only in cc
+
 pub left_first : (s t : ℕ) (a : PathAttributes) (es new : RouteList) → HasRisingSlots ((s, a) ∷ es) → s ≡ t → new ≡ es → new ≡ others_of t ((s, a) ∷ es)
 left_first s t a es new h e is = subst (λ n. new ≡ others_of n ((s, a) ∷ es)) e (is ∙ sym (without_first s a es h))
 

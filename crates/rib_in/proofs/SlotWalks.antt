@@ -1,5 +1,5 @@
 -- The least prefix to which a slot has a route, and walks over prefixes.
-use Rattle.std.proofs.Common.{◌≡◌, ℕ, ◌-◌, ◌+◌, ◌^◌, ◌<◌, ◌==◌, ◌≢◌, Bool, true, false, cond, [], ◌∷◌, Option, None, Some, IsSome, MatchBool, length, refl, sym, ap, subst, ◌∙◌, arith}
+use Rattle.std.proofs.Common.{◌≡◌, ℕ, ◌-◌, ◌+◌, ◌^◌, ◌<◌, ◌==◌, ◌≢◌, Bool, true, false, cond, [], ◌∷◌, Option, None, Some, IsSome, length, refl, sym, ap, ◌∙◌, arith}
 use Rattle.std.proofs.lemmas.Bool.{eq-eqb, eqb-true}
 use Rattle.std.specs.Borrow.{Bor}
 use Rattle.std.specs.Option.{is_some, option_copied}
@@ -9,11 +9,9 @@ use Rattle.std.specs.declared.cmp.Ordering.TheVariants.{Less, Equal, Greater}
 use Rattle.net_prefix.specs.PrefixOrder.{IsAbove, prefix_cmp}
 use Rattle.net_prefix.specs.declared.prefix.Prefix.{Prefix}
 use Rattle.net_prefix.proofs.Ranks.{less_rank, rank}
-use Rattle.prefix_trie.specs.TrieMap.{found}
 use Rattle.bgp_attr.specs.PathAttributes.{PathAttributes}
-use Rattle.rib_in.specs.LatestRoutes.{HasNoEmptyList, HasRoute, RouteList, RouteTable, is_route, route_among, route_at, route_in}
+use Rattle.rib_in.specs.LatestRoutes.{RouteList, RouteTable, is_route, route_at, route_in}
 use Rattle.rib_in.proofs.RouteLists.{here, not_at}
-use Rattle.rib_in.proofs.Tables.{no_empty_found}
 use Rattle.rib_in.proofs.Walks.{above_from, is_above}
 
 -- where there are routes, some slot has one
@@ -21,34 +19,9 @@ pub some_route : (routes : RouteList) → 0 < length routes → (s : ℕ) × IsS
 some_route [] h = absurd (omega arith)
 some_route (e ∷ es) h = (e.0, rw (here e.0) refl)
 
-routed_by : (table : RouteTable) (p : Prefix) (o : Option RouteList) → found table p ≡ o → HasNoEmptyList table → MatchBool (is_some o) (HasRoute table p) ((s : ℕ) → route_at table s p ≡ None)
-routed_by table p None is full = λ s. ap (λ o. route_among o s) is
-routed_by table p (Some routes) is full = let s = some_route routes (no_empty_found p routes table full is) in (s.0, rw is s.1)
-
 pub some_copied : {V : Type 0} (r : Option (Bor V)) → is_some r ≡ is_some (option_copied r)
 some_copied None = refl
 some_copied (Some v) = refl
-
--- where the routes to a prefix are found, some slot has one
-pub routed : (table : RouteTable) (p : Prefix) (r : Option (Bor RouteList)) (b : Bool) → HasNoEmptyList table → option_copied r ≡ found table p → b ≡ is_some r
-    → MatchBool b (HasRoute table p) ((s : ℕ) → route_at table s p ≡ None)
-routed table p r b full copied is =
-    let tells : is_some (found table p) ≡ b = sym (is ∙ some_copied r ∙ ap is_some copied) in
-    subst (λ t. MatchBool t (HasRoute table p) ((s : ℕ) → route_at table s p ≡ None)) tells (routed_by table p (found table p) refl full)
-
-there_from : (o : Option RouteList) (slot : ℕ) → IsSome (route_among o slot) → (routes : RouteList) × (o ≡ Some routes) × IsSome (route_in routes slot)
-there_from None slot h = absurd cc
-there_from (Some routes) slot h = (routes, refl, h)
-
--- ---- of all slots
-module _ (table : RouteTable) where
-  -- where there are routes to a prefix, some slot has one
-  pub next_has : (p : Prefix) (routes : RouteList) → HasNoEmptyList table → found table p ≡ Some routes → HasRoute table p
-  next_has p routes full there = let s = some_route routes (no_empty_found p routes table full there) in (s.0, rw there s.1)
-
-  -- a prefix to which a slot has a route is found
-  pub next_found : (s : ℕ) (q : Prefix) → IsSome (route_at table s q) → IsSome (found table q)
-  next_found s q has = let there = there_from (found table q) s has in rw there.1 refl
 
 -- ---- walks
 -- how many places are above a prefix, or in all

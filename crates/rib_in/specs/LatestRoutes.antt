@@ -1,7 +1,6 @@
 -- The latest route that each slot announced to each prefix, and didn't withdraw since: Adj-RIB-In (RFC 4271
 -- section 3.2).
-use Rattle.std.specs.Prelude.{ℕ, Bool, List, [], ◌∷◌, Option, Some, None, IsSome, ◌<◌, length}
-use Rattle.std.specs.List.{AllByRecursion}
+use Rattle.std.specs.Prelude.{ℕ, Bool, List, [], ◌∷◌, Option, Some, None, IsSome}
 use Rattle.std.specs.BTreeMap.{is_at}
 use Rattle.std.specs.Ordering.{nat_cmp, ordering_then, is_eq}
 use Rattle.std.specs.Map.{lookup}
@@ -34,10 +33,6 @@ route_at table slot prefix = route_among (found table prefix) slot
 -- whether both name one route: the same prefix and the same slot
 abbrev pub is_route : ℕ → Prefix → ℕ → Prefix → Bool
 is_route slot prefix s p = is_eq (ordering_then (prefix_cmp prefix p) (nat_cmp slot s))
-
--- no prefix is there without a route
-abbrev pub HasNoEmptyList : RouteTable → Type 0
-HasNoEmptyList table = AllByRecursion (λ e. 0 < length e.1) table
 
 -- some slot has a route to the prefix
 abbrev pub HasRoute : RouteTable → Prefix → Type 0

@@ -1,4 +1,3 @@
 pub mod LatestRoutes
 pub mod PrefixRoutes
-pub mod RibNumbers
 pub mod RoutesFall

@@ -7,8 +7,6 @@
 //! route of a slot and a prefix and the routes of a slot, is defined here too.
 #![tactic(auto)]
 
-mod fault;
 mod prefix_routes;
 
-pub use fault::RibFault;
 pub use prefix_routes::PrefixRoutes;

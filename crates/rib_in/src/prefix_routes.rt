@@ -1,15 +1,14 @@
 //! The routes to one prefix.
-ghost use Rattle.std.specs.Prelude.{◌≡◌, ◌<◌, [], ◌∷◌, OnErr, IfErr, IfOk, is_ok};
-ghost use Rattle.std.specs.Option.{option_copied, is_some};
+ghost use Rattle.std.specs.Prelude.{◌≡◌, ◌<◌, true, [], ◌∷◌, OnErr, IfErr, IfOk, is_ok};
+ghost use Rattle.std.specs.Option.{option_copied, option_map, is_some};
 ghost use Rattle.std.specs.Map.{set_value};
 ghost use Rattle.std.specs.BTreeMap.{is_at};
 ghost use Rattle.std.specs.Ordering.{nat_cmp};
 ghost use Rattle.rib_in.specs.LatestRoutes.{route_in};
 ghost use Rattle.rib_in.specs.PrefixRoutes.{IsLeft, is_next_only, is_only, with_first};
 
-use crate::fault::RibFault;
 use bgp_attr::Attrs;
-use std::alloc::{Allocator, Global};
+use std::alloc::{AllocError, Allocator, Global};
 use std::cmp::Ordering;
 use std::marker::Model;
 use std::mem;
@@ -57,23 +56,18 @@ impl<A: Allocator> PrefixRoutes<A> {
     }
 
     /// Takes memory for one route, to be put among others.
-    pub fn boxed(alloc: &A, slot: u8, attrs: Rc<Attrs<A>, A>) -> Result<Box<Self, A>, RibFault>
+    pub fn boxed(alloc: &A, slot: u8, attrs: Rc<Attrs<A>, A>) -> Result<Box<Self, A>, AllocError>
     where
         A: Clone,
         ensures { IfOk result (λ boxed. boxed.value ≡ (slot, attrs.value) ∷ []) }
     {
-        match alloc.clone() {
-            Ok(alloc) => match Box::new(alloc, PrefixRoutes::one(slot, attrs)) {
-                Ok(boxed) => Ok(boxed),
-                Err(_) => Err(RibFault::NoMemory),
-            },
-            Err(_) => Err(RibFault::NoMemory),
-        }
+        let boxed = Box::new(alloc.clone()?, PrefixRoutes::one(slot, attrs))?;
+        Ok(boxed)
     }
 
     /// The attributes of the slot's route.
-    pub fn get(&self, slot: u8) -> Option<&Attrs<A>>
-        ensures { option_copied result ≡ route_in self.now slot }
+    pub fn get(&self, slot: u8) -> Option<&Rc<Attrs<A>, A>>
+        ensures { option_map (λ attrs. attrs.value) (option_copied result) ≡ route_in self.now slot }
     {
         if self.slot == slot {
             return Some(&self.attrs);
@@ -131,9 +125,10 @@ impl<A: Allocator> PrefixRoutes<A> {
         }
     }
 
-    /// Takes out the slot's route, where another slot has one.
+    /// Takes out the slot's route, where another slot has one. The only route stays.
     pub fn withdraw(&mut self, slot: u8)
-        ensures { IsLeft slot self.old self.new }
+        ensures left { IsLeft slot self.old self.new }
+        ensures only { is_only slot self.old ≡ true → self.new ≡ self.old }
     {
         if self.slot == slot {
             let Some(higher) = self.higher.take() else {

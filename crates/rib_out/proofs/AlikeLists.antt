@@ -141,6 +141,22 @@ gone_case : (b c : Bool) → c ≡ false → cond b false c ≡ false
 gone_case true c h = refl
 gone_case false c h = h
 
+less_case : (b c : Bool) → cond b false c ≡ true → c ≡ true
+less_case true c h = absurd cc
+less_case false c h = h
+
+-- what is listed behind a removal was listed before
+pub removed_fewer : (k e : Entry) (old new : BTreeSet Entry) → Updates alike_cmp old new k false → contains alike_cmp new e ≡ true → contains alike_cmp old e ≡ true
+removed_fewer k e old new u h = less_case (is_at (alike_cmp k) e) (contains alike_cmp old e) (sym (u.0 e) ∙ h)
+
+-- entries that are two don't stand at one place
+pub apart_entry : (k e : Entry) → e ≢ k → is_eq (alike_cmp k e) ≡ false
+apart_entry k e apart = not_listed (is_eq (alike_cmp k e)) (λ is. apart (same_entry k e is))
+
+-- of another number is another entry
+pub of_other_number : (e : Entry) (slot number : ℕ) (prefix : Prefix) → e.number ≢ number → e ≢ alike slot number prefix
+of_other_number e slot number prefix other = λ same. other (λ i. (same i).number)
+
 -- what isn't listed isn't behind a removal either
 pub removed_none : (k e : Entry) (old new : BTreeSet Entry) → Updates alike_cmp old new k false → contains alike_cmp old e ≡ false → contains alike_cmp new e ≡ false
 removed_none k e old new u h = u.0 e ∙ gone_case (is_at (alike_cmp k) e) (contains alike_cmp old e) h

@@ -1,6 +1,5 @@
 //! One peer's Adj-RIB-Out.
 ghost use Rattle.std.specs.Prelude.{◌≡◌, [], None, Some, OnOk, OnErr, IfSome, IfNone, IsSome, IsTrue, ◌↔◌, false, is_some, if◌then◌else◌};
-ghost use Rattle.std.specs.Option.{option_copied};
 ghost use Rattle.std.specs.Ordering.{is_gt};
 ghost use Rattle.std.specs.declared.cmp.Ordering.TheVariants.{Less};
 ghost use Rattle.std.specs.Iterator.{YieldsFirstBy, item_count};
@@ -9,7 +8,7 @@ ghost use Rattle.rib_out.specs.Held.{IsRising, all_asked, asked_at, held_at, is_
 ghost use Rattle.net_prefix.specs.PrefixOrder.{prefix_cmp, IsAbove};
 ghost use Rattle.prefix_trie.specs.TrieWalks.{all_above, all_after};
 
-use crate::shared::SharedOctets;
+use crate::sent::SentAttributes;
 use crate::undo::{UndoLog, tell_all};
 use net_prefix::Prefix;
 use std::alloc::{AllocError, Allocator, Global};
@@ -17,7 +16,7 @@ use std::collections::{BTreeMap, btree_map};
 use std::marker::Model;
 use std::ops::Bound;
 
-/// What one peer was sent: the octets of the attributes of each prefix that it holds, and whether it has asked for the
+/// What one peer was sent: the attributes of each prefix that it holds, as they were sent, and whether it has asked for the
 /// route again since.
 #[derive(Drop)]
 pub struct AdjOut<A: Allocator = Global> {
@@ -31,7 +30,7 @@ pub struct AdjOut<A: Allocator = Global> {
 /// What a peer holds of a prefix.
 #[derive(Drop)]
 pub(crate) struct HeldRoute<A: Allocator> {
-    pub(crate) octets: SharedOctets<A>,
+    pub(crate) sent: SentAttributes<A>,
     // Whether the peer has asked for the route again since it was sent it (RFC 2918 section 4).
     pub(crate) asked: bool,
 }
@@ -41,7 +40,7 @@ impl<A: Allocator> Model for HeldRoute<A> {
 
     ghost Value = { HeldRoute };
 
-    ghost view = { λ route. record { octets = route.octets; asked = route.asked } };
+    ghost view = { λ route. record { octets = route.sent; asked = route.asked } };
 }
 
 impl<A: Allocator> Model for AdjOut<A> {
@@ -68,12 +67,11 @@ impl<A: Allocator + Clone> AdjOut<A> {
         }
     }
 
-    /// The octets that the peer holds of a prefix.
-    pub fn get(&self, prefix: Prefix) -> Option<&[u8]>
-        ensures { option_copied result ≡ held_at self.now prefix }
+    /// Whether the peer holds the prefix.
+    pub fn is_held(&self, prefix: Prefix) -> bool
+        ensures { result ≡ is_some (held_at self.now prefix) }
     {
-        let held = self.routes.get(&prefix)?;
-        Some(held.octets.as_slice())
+        self.routes.get(&prefix).is_some()
     }
 
     /// Whether the peer holds the prefix, and has asked for it again since it was sent it.
@@ -105,8 +103,8 @@ impl<A: Allocator + Clone> AdjOut<A> {
     pub fn holds(&self, prefix: Prefix, octets: &[u8]) -> bool
         ensures { IsTrue result ↔ (held_at self.now prefix ≡ Some octets.now) }
     {
-        match self.get(prefix) {
-            Some(held) => held == octets,
+        match self.routes.get(&prefix) {
+            Some(held) => held.sent.are(octets),
             None => false,
         }
     }
@@ -116,21 +114,18 @@ impl<A: Allocator + Clone> AdjOut<A> {
         ensures { IsTrue result ↔ ((held_at self.now prefix ≡ Some octets.now) × (asked_at self.now prefix ≡ false)) }
     {
         match self.routes.get(&prefix) {
-            Some(held) => !held.asked && held.octets.as_slice() == octets,
+            Some(held) => !held.asked && held.sent.are(octets),
             None => false,
         }
     }
 
     /// The peer was sent a route with these attributes, for which it has not asked again.
-    pub fn announce(&mut self, prefix: Prefix, octets: SharedOctets<A>) -> Result<(), AllocError>
-        ensures held { OnOk result ((q : Prefix) → held_at self.new q ≡ (if is_prefix prefix q then Some octets else held_at self.old q)) }
+    pub fn announce(&mut self, prefix: Prefix, sent: SentAttributes<A>) -> Result<(), AllocError>
+        ensures held { OnOk result ((q : Prefix) → held_at self.new q ≡ (if is_prefix prefix q then Some sent else held_at self.old q)) }
         ensures asked { OnOk result ((q : Prefix) → asked_at self.new q ≡ (if is_prefix prefix q then false else asked_at self.old q)) }
         ensures err { OnErr result (self.new ≡ self.old) }
     {
-        let held = HeldRoute {
-            octets,
-            asked: false,
-        };
+        let held = HeldRoute { sent, asked: false };
         self.is_all_asked = false;
         self.routes.insert(prefix, held)?;
         Ok(())
@@ -140,15 +135,15 @@ impl<A: Allocator + Clone> AdjOut<A> {
     pub fn announce_all(
         &mut self,
         prefixes: &[Prefix],
-        octets: &SharedOctets<A>,
+        sent: &SentAttributes<A>,
         log: &mut UndoLog<A>,
     ) -> Result<(), AllocError>
-        ensures held { OnOk result ((q : Prefix) → held_at self.new q ≡ (if is_among q prefixes.now then Some octets.now else held_at self.old q)) }
+        ensures held { OnOk result ((q : Prefix) → held_at self.new q ≡ (if is_among q prefixes.now then Some sent.now else held_at self.old q)) }
         ensures asked { OnOk result ((q : Prefix) → asked_at self.new q ≡ (if is_among q prefixes.now then false else asked_at self.old q)) }
         ensures err { OnErr result (self.new ≡ self.old) }
     {
         self.is_all_asked = false;
-        tell_all(&mut self.routes, prefixes, octets, &mut log.steps)
+        tell_all(&mut self.routes, prefixes, sent, &mut log.steps)
     }
 
     /// The peer was sent once more what it holds of the prefix. It takes no memory.
@@ -290,7 +285,7 @@ impl<A: Allocator + Clone> AdjOut<A> {
     }
 }
 
-/// The prefixes that a peer holds, with the octets of their attributes.
+/// The prefixes that a peer holds, with the attributes that it was sent.
 #[derive(Drop)]
 pub struct HeldRoutes<'a, A: Allocator = Global> {
     rest: btree_map::Range<'a, Prefix, HeldRoute<A>>,
@@ -307,14 +302,14 @@ impl<'a, A: Allocator> Model for HeldRoutes<'a, A> {
 }
 
 impl<'a, A: Allocator> Iterator for HeldRoutes<'a, A> {
-    type Item = (Prefix, &'a [u8]);
+    type Item = (Prefix, &'a SentAttributes<A>);
 
     ghost next_gives = { YieldsFirstBy (λ item. (item.0, item.1.now)) (λ rest. rest) };
 
     ghost remaining = { item_count (λ rest. rest) };
 
-    fn next(&mut self) -> Option<(Prefix, &'a [u8])> {
+    fn next(&mut self) -> Option<(Prefix, &'a SentAttributes<A>)> {
         let (prefix, held) = self.rest.next()?;
-        Some((*prefix, held.octets.as_slice()))
+        Some((*prefix, &held.sent))
     }
 }

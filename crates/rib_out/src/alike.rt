@@ -156,6 +156,8 @@ impl<A: Allocator + Clone> AlikePrefixes<A> {
     pub fn unlist(&mut self, slot: u8, octets: &[u8], prefix: Prefix)
         requires slot { slot < 64 }
         ensures gone { is_listed self.new slot octets.now prefix ≡ false }
+        ensures fewer { (a : Entry) → contains alike_cmp self.new.prefixes a ≡ true → contains alike_cmp self.old.prefixes a ≡ true }
+        ensures others { (a : Entry) → a ≢ alike slot (octets_number octets.now) prefix → contains alike_cmp self.new.prefixes a ≡ contains alike_cmp self.old.prefixes a }
         ensures whole { self.new.whole ≡ self.old.whole }
         ensures kept { (s : ℕ) (o : List ℕ) (p : Prefix) → (s == slot && is_prefix prefix p) ≡ false → IsListed self.old s o p → IsListed self.new s o p }
     {
@@ -166,7 +168,9 @@ impl<A: Allocator + Clone> AlikePrefixes<A> {
     // The prefix isn't listed any more for the slot with octets of this number.
     fn remove(&mut self, slot: u8, number: u64, prefix: Prefix)
         ensures gone { contains alike_cmp self.new.prefixes (alike slot number prefix) ≡ false }
-        ensures fewer { (a : Entry) → contains alike_cmp self.old.prefixes a ≡ false → contains alike_cmp self.new.prefixes a ≡ false }
+        ensures none { (a : Entry) → contains alike_cmp self.old.prefixes a ≡ false → contains alike_cmp self.new.prefixes a ≡ false }
+        ensures fewer { (a : Entry) → contains alike_cmp self.new.prefixes a ≡ true → contains alike_cmp self.old.prefixes a ≡ true }
+        ensures others { (a : Entry) → a ≢ alike slot number prefix → contains alike_cmp self.new.prefixes a ≡ contains alike_cmp self.old.prefixes a }
         ensures whole { self.new.whole ≡ self.old.whole }
         ensures kept { (s : ℕ) (o : List ℕ) (p : Prefix) → (s == slot && is_prefix prefix p) ≡ false → IsListed self.old s o p → IsListed self.new s o p }
     {
@@ -181,6 +185,8 @@ impl<A: Allocator + Clone> AlikePrefixes<A> {
     pub fn unlist_all(&mut self, slot: u8, octets: &[u8], prefixes: &[Prefix])
         requires slot { slot < 64 }
         ensures gone { (p : Prefix) → is_among p prefixes.now ≡ true → is_listed self.new slot octets.now p ≡ false }
+        ensures fewer { (a : Entry) → contains alike_cmp self.new.prefixes a ≡ true → contains alike_cmp self.old.prefixes a ≡ true }
+        ensures others { (a : Entry) → a.number ≢ octets_number octets.now → contains alike_cmp self.new.prefixes a ≡ contains alike_cmp self.old.prefixes a }
         ensures whole { self.new.whole ≡ self.old.whole }
         ensures kept { (s : ℕ) (o : List ℕ) (p : Prefix) → (s == slot && is_among p prefixes.now) ≡ false → IsListed self.old s o p → IsListed self.new s o p }
     {
@@ -194,6 +200,7 @@ impl<A: Allocator + Clone> AlikePrefixes<A> {
     pub fn clear(&mut self, slot: u8)
         requires slot { slot < 64 }
         ensures none { (o : List ℕ) (p : Prefix) → is_listed self.new slot o p ≡ false }
+        ensures fewer { (a : Entry) → contains alike_cmp self.new.prefixes a ≡ true → contains alike_cmp self.old.prefixes a ≡ true }
         ensures whole { (s : ℕ) → has_slot self.new.whole s ≡ (s == slot || has_slot self.old.whole s) }
         ensures kept { (s : ℕ) (o : List ℕ) (p : Prefix) → s ≢ slot → IsListed self.old s o p → IsListed self.new s o p }
     {

@@ -1,10 +1,11 @@
 //! What a peer was last sent, and what waits for it: Adj-RIB-Out.
 //!
-//! `AdjOut` keeps, for each prefix that a peer was told of and that wasn't withdrawn since, the octets of the
-//! attributes that went with it (RFC 4271 section 3.2), and whether the peer has asked for it again since (RFC 2918).
-//! Only `announce` and `announce_all` take memory, and where they get none the table stays as it was: `announce_all`
-//! notes in an `UndoLog` what it changes. The octets are `SharedOctets`, which `RecentOctets` gives to many prefixes and
-//! many peers: a list that was announced lately is kept once for all that are told it.
+//! `AdjOut` keeps, for each prefix that a peer was told of and that wasn't withdrawn since, the attributes that went with
+//! it (RFC 4271 section 3.2), and whether the peer has asked for it again since (RFC 2918). Only `announce` and
+//! `announce_all` take memory, and where they get none the table stays as it was: `announce_all` notes in an `UndoLog` what
+//! it changes. The attributes are `SentAttributes`: those that the route came with, shared with it, beside how they were
+//! changed on the way to the peer, which `RecentRewrite` shares among those that were changed alike. So no octets are kept:
+//! they are what is written of the two.
 //!
 //! `Waiting` is two queues for each slot: the withdrawals that wait for it and the announcements, each in the order of
 //! prefixes, so that the next is found soon. A queue takes memory as it grows. Where that is refused, the slot's queues are
@@ -22,7 +23,7 @@
 mod adj_out;
 mod alike;
 mod marks;
-mod shared;
+mod sent;
 mod slots;
 mod undo;
 mod waiting;
@@ -30,6 +31,6 @@ mod waiting;
 pub use adj_out::{AdjOut, HeldRoutes};
 pub use alike::AlikePrefixes;
 pub use marks::Owed;
-pub use shared::{RecentOctets, SharedOctets};
+pub use sent::{RecentRewrite, SentAttributes};
 pub use undo::UndoLog;
 pub use waiting::Waiting;

@@ -5,7 +5,7 @@ ghost use Rattle.rib_out.specs.Held.{is_among, is_prefix};
 ghost use Rattle.rib_out.specs.Undo.{HasPlace, HavePlaces, all_undone, route_at, undone};
 
 use crate::adj_out::HeldRoute;
-use crate::shared::SharedOctets;
+use crate::sent::SentAttributes;
 use net_prefix::Prefix;
 use std::alloc::{AllocError, Allocator, Global};
 use std::collections::BTreeMap;
@@ -35,19 +35,19 @@ impl<A: Allocator> UndoLog<A> {
     }
 }
 
-/// Each of the prefixes is told with these octets, or, where memory is refused, none.
+/// Each of the prefixes is told with these attributes, or, where memory is refused, none.
 pub(crate) fn tell_all<A: Allocator + Clone>(
     routes: &mut BTreeMap<Prefix, HeldRoute<A>, A>,
     prefixes: &[Prefix],
-    octets: &SharedOctets<A>,
+    sent: &SentAttributes<A>,
     steps: &mut Vec<(Prefix, Option<HeldRoute<A>>), A>,
 ) -> Result<(), AllocError>
-    ensures told { OnOk result ((q : Prefix) → route_at routes.new.entries q ≡ (if is_among q prefixes.now then Some (record { octets = octets.now; asked = false }) else route_at routes.old.entries q)) }
+    ensures told { OnOk result ((q : Prefix) → route_at routes.new.entries q ≡ (if is_among q prefixes.now then Some (record { octets = sent.now; asked = false }) else route_at routes.old.entries q)) }
     ensures err { OnErr result (routes.new.entries ≡ routes.old.entries) }
 {
     steps.clear();
     for prefix in prefixes {
-        if tell(routes, *prefix, octets, steps).is_err() {
+        if tell(routes, *prefix, sent, steps).is_err() {
             undo(routes, steps);
             return Err(AllocError);
         }
@@ -56,14 +56,14 @@ pub(crate) fn tell_all<A: Allocator + Clone>(
     Ok(())
 }
 
-// The prefix is told with these octets, and what was there before is noted.
+// The prefix is told with these attributes, and what was there before is noted.
 fn tell<A: Allocator + Clone>(
     routes: &mut BTreeMap<Prefix, HeldRoute<A>, A>,
     prefix: Prefix,
-    octets: &SharedOctets<A>,
+    sent: &SentAttributes<A>,
     steps: &mut Vec<(Prefix, Option<HeldRoute<A>>), A>,
 ) -> Result<(), AllocError>
-    ensures told { OnOk result ((q : Prefix) → route_at routes.new.entries q ≡ (if is_prefix prefix q then Some (record { octets = octets.now; asked = false }) else route_at routes.old.entries q)) }
+    ensures told { OnOk result ((q : Prefix) → route_at routes.new.entries q ≡ (if is_prefix prefix q then Some (record { octets = sent.now; asked = false }) else route_at routes.old.entries q)) }
     ensures step { OnOk result (steps.new.items ≡ steps.old.items ++ (prefix, route_at routes.old.entries prefix) ∷ []) }
     ensures place { OnOk result (HasPlace prefix (route_at routes.old.entries prefix) routes.new.entries) }
     ensures back { OnOk result (undone prefix (route_at routes.old.entries prefix) routes.new.entries ≡ routes.old.entries) }
@@ -71,7 +71,7 @@ fn tell<A: Allocator + Clone>(
     ensures no_step { OnErr result (steps.new.items ≡ steps.old.items) }
 {
     let held = HeldRoute {
-        octets: octets.share()?,
+        sent: sent.share()?,
         asked: false,
     };
     let before = match routes.insert(prefix, held) {

@@ -1,2 +1,1 @@
 pub mod Addressed
-pub mod SoundBooks

@@ -1,100 +1,76 @@
-//! What a peer holds, a refused growth, and octets that are shared.
+//! A refused growth of what a peer holds, and attributes that are changed alike.
 ghost use Rattle.std.specs.Prelude.{◌≤◌};
 
 use crate::given::{is_filled_at_last, prefix_of};
-use net_prefix::Prefix;
+use arrayvec::ArrayVec;
+use bgp_attr::Attrs;
+use export_rules::Rewrite;
+use net_prefix::{Asn, Prefix};
 use refusing::Refusing;
-use rib_out::{AdjOut, RecentOctets, SharedOctets, UndoLog};
+use rib_out::{AdjOut, RecentRewrite, SentAttributes, UndoLog};
 use std::alloc::{AllocError, Allocator, Global};
 use std::process::Abort;
+use std::rc::Rc;
 
-// Announces the octets. Answers whether they were taken.
+// The octets of a local network's attributes as they are sent from 127.0.0.1 to a peer in another AS by AS 64,500, with this
+// MULTI_EXIT_DISC (RFC 4271 section 4.3).
+const fn octets_of(med: u8) -> [u8; 27] {
+    [
+        0x40, 1, 1, 0, // ORIGIN: IGP
+        0x40, 2, 6, 2, 1, 0, 0, 0xfb, 0xf4, // AS_PATH: 64,500
+        0x40, 3, 4, 127, 0, 0, 1, // NEXT_HOP
+        0x80, 4, 4, 0, 0, 0, med, // MULTI_EXIT_DISC
+    ]
+}
+
+// How they are changed.
+fn with_med(med: u8) -> Rewrite {
+    Rewrite::External {
+        own: Asn(64_500),
+        times: 1,
+        local: 0x7f00_0001,
+        med: Some(u32::from(med)),
+    }
+}
+
+// The attributes of a local network.
+fn originated<A: Allocator + Clone>(alloc: A) -> Result<Rc<Attrs<A>, A>, AllocError> {
+    let attrs = Attrs::originated(alloc.clone()?);
+    Ok(Rc::new(alloc, attrs)?)
+}
+
+// These, as they are sent.
+fn sent<A: Allocator + Clone>(
+    recent: &mut RecentRewrite<A>,
+    attrs: &Rc<Attrs<A>, A>,
+    med: u8,
+) -> Result<SentAttributes<A>, AllocError> {
+    let rewrite = with_med(med);
+    let mut octets = ArrayVec::new();
+    if !rewrite.write(attrs, &mut octets) {
+        return Err(AllocError);
+    }
+    recent.sent(attrs, rewrite)
+}
+
+// Announces a prefix with them. Answers whether it was taken.
 fn announce<A: Allocator + Clone>(
     table: &mut AdjOut<A>,
     prefix: Prefix,
-    octets: Result<SharedOctets<A>, AllocError>,
+    sent: Result<SentAttributes<A>, AllocError>,
 ) -> bool {
-    match octets {
-        Ok(octets) => table.announce(prefix, octets).is_ok(),
+    match sent {
+        Ok(sent) => table.announce(prefix, sent).is_ok(),
         Err(_) => false,
     }
 }
 
-// Whether each of these announcements is taken.
-fn announces(alloc: Global, table: &mut AdjOut, announced: &[(Prefix, &[u8])]) -> bool {
-    for (prefix, octets) in announced {
-        if !announce(table, *prefix, SharedOctets::of(alloc, octets)) {
-            return false;
-        }
-    }
-    true
-}
-
-// Whether the peer holds just these prefixes, each with its octets, by each way to find them.
-fn holds_just(table: &AdjOut, held: &[(Prefix, &[u8])]) -> bool {
-    let mut after = None;
-    let mut routes = table.held();
-    for (prefix, octets) in held {
-        if table.prefix_after(after) != Some(*prefix)
-            || routes.next() != Some((*prefix, *octets))
-            || !table.holds(*prefix, octets)
-        {
-            return false;
-        }
-        after = Some(*prefix);
-    }
-    table.prefix_after(after).is_none() && routes.next().is_none()
-}
-
-const LOW: Prefix = Prefix {
-    bits: 0x0a00_0000,
-    len: 16,
-};
-
-const HIGH: Prefix = Prefix {
-    bits: 0x0a00_0000,
-    len: 24,
-};
-
-// Of a low prefix, to which one and then two is announced, and a high one.
-fn holds_the_last(alloc: Global, table: &mut AdjOut) -> bool {
-    let announced: [(Prefix, &[u8]); 3] = [(HIGH, b"three"), (LOW, b"one"), (LOW, b"two")];
-    announces(alloc, table, &announced)
-        && holds_just(table, &[(LOW, b"two"), (HIGH, b"three")])
-        && !table.holds(LOW, b"one")
-}
-
-// Then the peer asks for all again, and is told of the low one.
-fn asks_again(alloc: Global, table: &mut AdjOut) -> bool {
-    let told: [(Prefix, &[u8]); 1] = [(LOW, b"two")];
-    table.ask_all();
-    table.is_asked(LOW)
-        && holds_just(table, &[(LOW, b"two"), (HIGH, b"three")])
-        && announces(alloc, table, &told)
-        && !table.is_asked(LOW)
-        && table.is_asked(HIGH)
-}
-
-// Then the low one is withdrawn, and all is cleared.
-fn holds_no_more(table: &mut AdjOut) -> bool {
-    table.withdraw(LOW);
-    let is_left = table.get(LOW).is_none() && holds_just(table, &[(HIGH, b"three")]);
-    table.clear();
-    is_left && holds_just(table, &[])
-}
-
-#[test]
-fn the_peer_holds_what_it_was_last_sent(rt: HostRuntime) {
-    let mut table = AdjOut::new(rt.alloc());
-    assert!(rt; holds_the_last(rt.alloc(), &mut table) && asks_again(rt.alloc(), &mut table));
-    assert!(rt; holds_no_more(&mut table));
-}
-
-// Whether the peer holds so many prefixes, each with these octets.
-fn holds_so_many<A: Allocator + Clone>(table: &AdjOut<A>, all: &[u8], count: u32) -> bool {
+// Whether the peer holds so many prefixes, each with this MULTI_EXIT_DISC.
+fn holds_so_many<A: Allocator + Clone>(table: &AdjOut<A>, med: u8, count: u32) -> bool {
+    let octets = octets_of(med);
     let mut held = 0u32;
-    for (_, octets) in table.held() {
-        if octets != all {
+    for (_, sent) in table.held() {
+        if !sent.are(&octets) {
             return false;
         }
         held = held.saturating_add(1);
@@ -106,55 +82,38 @@ fn holds_so_many<A: Allocator + Clone>(table: &AdjOut<A>, all: &[u8], count: u32
 fn is_announced_again<A: Allocator + Clone>(
     rt: &impl Abort,
     table: &mut AdjOut<A>,
-    octets: &SharedOctets<A>,
+    sent: &SentAttributes<A>,
     prefix: Prefix,
     before: u32,
 ) -> bool {
-    let refused = !announce(table, prefix, octets.share());
+    let refused = !announce(table, prefix, sent.share());
     if refused {
-        assert!(rt; table.get(prefix).is_none() && holds_so_many(table, &[7; 40], before));
-        assert!(rt; announce(table, prefix, octets.share()));
+        assert!(rt; !table.is_held(prefix) && holds_so_many(table, 7, before));
+        assert!(rt; announce(table, prefix, sent.share()));
     }
     refused
 }
 
-// Fills the table with one list of octets, and asks again where a growth is refused. Answers how often one was.
+// Fills the table with the same attributes, and asks again where a growth is refused. Answers how often one was.
 fn fill<A: Allocator + Clone>(
     rt: &impl Abort,
     table: &mut AdjOut<A>,
-    octets: &SharedOctets<A>,
+    sent: &SentAttributes<A>,
 ) -> u32 {
     let mut refused = 0u32;
     for number in 0..64u32 {
         let prefix = prefix_of(rt, number * 256, 24);
-        if is_announced_again(rt, table, octets, prefix, number) {
+        if is_announced_again(rt, table, sent, prefix, number) {
             refused = refused.saturating_add(1);
         }
     }
     refused
 }
 
-// Where the octets found memory, fills the table with them.
-fn refusals_in<A: Allocator + Clone>(
-    rt: &impl Abort,
-    mut table: AdjOut<A>,
-    octets: Result<SharedOctets<A>, AllocError>,
-) -> u32 {
-    match octets {
-        Ok(octets) => fill(rt, &mut table, &octets),
-        Err(_) => 1,
-    }
-}
-
-// Fills a table from the heap. Answers how often a growth was refused.
-fn refusals_from(rt: &impl Abort, heap: &Refusing<Global>) -> u32 {
-    let octets = SharedOctets::of(heap, &[7; 40]);
-    refusals_in(rt, AdjOut::new(heap), octets)
-}
-
-#[test]
-fn a_refused_growth_leaves_the_table(rt: HostRuntime) {
-    assert!(rt; is_filled_at_last(rt.alloc(), |heap| refusals_from(&rt, heap)));
+// The attributes of a local network with this MULTI_EXIT_DISC, from an allocator.
+fn sent_from<A: Allocator + Clone>(alloc: A, med: u8) -> Result<SentAttributes<A>, AllocError> {
+    let attrs = originated(alloc.clone()?)?;
+    sent(&mut RecentRewrite::new(alloc), &attrs, med)
 }
 
 // The prefixes that `fill` fills a table with, and half as many more.
@@ -173,14 +132,14 @@ fn is_told_again<A: Allocator + Clone>(
     table: &mut AdjOut<A>,
     log: &mut UndoLog<A>,
     prefixes: &[Prefix],
-    octets: &SharedOctets<A>,
+    sent: &SentAttributes<A>,
 ) -> bool {
-    let refused = table.announce_all(prefixes, octets, log).is_err();
+    let refused = table.announce_all(prefixes, sent, log).is_err();
     if refused {
-        assert!(rt; holds_so_many(table, &[7; 40], 64) && table.is_asked(prefix_of(rt, 0, 24)));
-        assert!(rt; table.announce_all(prefixes, octets, log).is_ok());
+        assert!(rt; holds_so_many(table, 7, 64) && table.is_asked(prefix_of(rt, 0, 24)));
+        assert!(rt; table.announce_all(prefixes, sent, log).is_ok());
     }
-    assert!(rt; holds_so_many(table, &[8; 40], 96) && !table.is_asked(prefix_of(rt, 0, 24)));
+    assert!(rt; holds_so_many(table, 8, 96) && !table.is_asked(prefix_of(rt, 0, 24)));
     refused
 }
 
@@ -190,8 +149,8 @@ fn refusals_told<A: Allocator + Clone>(
     mut table: AdjOut<A>,
     mut log: UndoLog<A>,
     prefixes: &[Prefix],
-    first: Result<SharedOctets<A>, AllocError>,
-    last: Result<SharedOctets<A>, AllocError>,
+    first: Result<SentAttributes<A>, AllocError>,
+    last: Result<SentAttributes<A>, AllocError>,
 ) -> u32 {
     let Ok(first) = first else {
         return 1;
@@ -210,8 +169,8 @@ fn refusals_told<A: Allocator + Clone>(
 
 // The same from the heap.
 fn refusals_all(rt: &impl Abort, heap: &Refusing<Global>, prefixes: &[Prefix]) -> u32 {
-    let first = SharedOctets::of(heap, &[7; 40]);
-    let last = SharedOctets::of(heap, &[8; 40]);
+    let first = sent_from(heap, 7);
+    let last = sent_from(heap, 8);
     refusals_told(
         rt,
         AdjOut::new(heap),
@@ -235,32 +194,22 @@ fn all_prefixes_of_an_update_are_told_or_none(rt: HostRuntime) {
     );
 }
 
-// Asks a heap that refuses the nth request. Answers whether the first octets and their list found memory. Then octets that
-// were announced lately take none, and others do.
+// Asks a heap that refuses the nth request. Answers whether the attributes found memory, and how they were changed first. Then
+// those that are changed alike take none, and others do.
 fn is_shared(rt: &impl Abort, alloc: Global, nth: u64) -> bool
     requires { 1 ≤ nth }
 {
     let heap = Refusing::new(alloc, nth);
-    let Ok(mut recent) = RecentOctets::new(&heap) else {
-        panic!(rt; "no memory");
+    let mut recent = RecentRewrite::new(&heap);
+    let Ok(attrs) = originated(&heap) else {
+        return false;
     };
-    if recent.shared(&[7; 40]).is_err() || heap.has_refused() {
+    if sent(&mut recent, &attrs, 7).is_err() || heap.has_refused() {
         return false;
     }
-    assert!(rt; recent.shared(&[7; 40]).is_ok() && recent.shared(&[8; 40]).is_err());
+    assert!(rt; sent(&mut recent, &attrs, 7).is_ok() && sent(&mut recent, &attrs, 8).is_err());
     assert!(rt; heap.has_refused());
     true
-}
-
-// Whether octets are told though a request of theirs, the nth of all, is refused.
-fn is_told_unshared(rt: &impl Abort, alloc: Global, nth: u64) -> bool
-    requires { 1 ≤ nth }
-{
-    let heap = Refusing::new(alloc, nth);
-    let Ok(mut recent) = RecentOctets::new(&heap) else {
-        panic!(rt; "no memory");
-    };
-    recent.shared(&[7; 40]).is_ok() && heap.has_refused()
 }
 
 // Whether it is so with one of the first requests.
@@ -275,14 +224,8 @@ fn is_ever<F: Fn(u32) -> bool>(is_so: F) -> bool
     false
 }
 
-// One more request than all that the first octets ask for is the next one.
+// One more request than all that the first attributes ask for is the next one.
 #[test]
-fn peers_share_what_was_announced_lately(rt: HostRuntime) {
+fn attributes_that_are_changed_alike_share_it(rt: HostRuntime) {
     assert!(rt; is_ever(|before| is_shared(&rt, rt.alloc(), u64::from(before) + 1)));
-}
-
-// Memory for the lists is refused.
-#[test]
-fn octets_are_told_where_nobody_can_share_them(rt: HostRuntime) {
-    assert!(rt; is_ever(|before| is_told_unshared(&rt, rt.alloc(), u64::from(before) + 1)));
 }

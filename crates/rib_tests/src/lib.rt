@@ -1,5 +1,4 @@
-//! Tests alone, of the tables that routes go through: what no answer of a script shows, and each growth refused in turn. A file
-//! is named for what it tests.
+//! Tests alone, of the tables that routes go through: each growth refused in turn. A file is named for what it tests.
 #![tactic(auto)]
 
 #[cfg(test)]
@@ -12,7 +11,5 @@ mod alike_prefixes;
 mod books;
 #[cfg(test)]
 mod given;
-#[cfg(test)]
-mod routes;
 #[cfg(test)]
 mod waiting_prefixes;

@@ -22,7 +22,7 @@ use decision::Book;
 use export_rules::ExportPeer;
 use net_prefix::Prefix;
 use rib_out::Owed;
-use routing::{Octets, announce, withdraw};
+use routing::{Octets, announce, exported_route, withdraw};
 use std::alloc::{AllocError, Allocator};
 
 impl<A: Allocator + Clone, B: Book<A>> Routes<A, B> {
@@ -110,6 +110,9 @@ impl<A: Allocator + Clone, B: Book<A>> Routes<A, B> {
             &mut draft.named,
             &mut draft.other,
         );
+        let Some(exported) = exported_route(&self.conf, self.routing.ribs(), peer, least) else {
+            return Ok(());
+        };
         let Some(link) = self.links.get_mut(&slot) else {
             return Ok(());
         };
@@ -118,6 +121,7 @@ impl<A: Allocator + Clone, B: Book<A>> Routes<A, B> {
             &mut self.recent,
             &mut self.undo,
             draft.named.as_slice(),
+            &exported,
             octets,
             &mut draft.message,
         )?;

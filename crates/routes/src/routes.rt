@@ -31,7 +31,7 @@ use export_rules::ExportPeer;
 use loc_rib::{Rows, SlotRoutes};
 use net_prefix::{Asn, Prefix};
 use origin_valid::PayloadTrie;
-use rib_out::{RecentOctets, UndoLog};
+use rib_out::{RecentRewrite, UndoLog};
 use routing::{
     Link, Links, Octets, Routing, WaitingPrefixes, choose_touched, export, export_peer, slots_end,
 };
@@ -48,8 +48,8 @@ pub struct Routes<A: Allocator + Clone, B: Book<A>> {
     pub(crate) payloads: PayloadTrie<A>,
     pub(crate) links: Links<A>,
     pub(crate) routing: Routing<A, B>,
-    // What was announced lately, for peers to share.
-    pub(crate) recent: RecentOctets<A>,
+    // How attributes were changed last for a peer, for the next to share.
+    pub(crate) recent: RecentRewrite<A>,
     // What an UPDATE changes of what a peer holds, until it is told whole.
     pub(crate) undo: UndoLog<A>,
 }
@@ -80,22 +80,21 @@ impl<A: Allocator + Clone + Copy, B: Book<A>> Routes<A, B> {
     pub fn new(alloc: A, own: Asn) -> Result<Self, AllocError>
         ensures { IfOk result (λ r. r ≡ begun own) }
     {
-        let recent = RecentOctets::new(alloc)?;
         let conf = Conf::new(alloc, own)?;
-        Self::begin(alloc, conf, recent)
+        Self::begin(alloc, conf)
     }
 
     // The same for this configuration, in which nothing is configured.
-    fn begin(alloc: A, conf: Conf<A>, recent: RecentOctets<A>) -> Result<Self, AllocError>
+    fn begin(alloc: A, conf: Conf<A>) -> Result<Self, AllocError>
         requires { conf ≡ (begun conf.own).conf }
         ensures { IfOk result (λ r. r ≡ begun conf.own) }
     {
         let routing = Routing::new(alloc)?;
-        Ok(Self::empty(alloc, conf, routing, recent))
+        Ok(Self::empty(alloc, conf, routing))
     }
 
     // These parts, in which there is nothing, as one value.
-    fn empty(alloc: A, conf: Conf<A>, routing: Routing<A, B>, recent: RecentOctets<A>) -> Self
+    fn empty(alloc: A, conf: Conf<A>, routing: Routing<A, B>) -> Self
         requires conf { conf ≡ (begun conf.own).conf }
         requires routing { routing ≡ started routing.waiting routing.alike }
         requires none { (s : ℕ) (p : ThePrefix) → IsAwaited routing.waiting s p None }
@@ -106,7 +105,7 @@ impl<A: Allocator + Clone + Copy, B: Book<A>> Routes<A, B> {
             payloads: PayloadTrie::new(alloc),
             links: BTreeMap::new(alloc),
             routing,
-            recent,
+            recent: RecentRewrite::new(alloc),
             undo: UndoLog::new(alloc),
         }
     }

@@ -1,5 +1,5 @@
 use Rattle.std.proofs.Common.{◌≡◌, ◌==◌, ◌&&◌, ◌||◌, ◌⊎◌, ℕ, Bool, true, false, not, List, [], ◌∷◌, ◌++◌, Option, Some, None, cond, refl, sym, ap, ◌∙◌, subst, inl, inr}
-use Rattle.std.specs.Option.{IsSome, is_some, option_map}
+use Rattle.std.specs.Option.{IfNone, IfSome, IsSome, is_some, option_map}
 use Rattle.std.specs.Ordering.{is_eq}
 use Rattle.std.proofs.lemmas.Bool.{cases_eq, eq-eqb, eqb-true, ne_eqb}
 use Rattle.bgp_attr.specs.PathAttributes.{PathAttributes}
@@ -13,6 +13,7 @@ use Rattle.routing.specs.Brought.{AreReady, IsBrought, IsPartial, IsReady, Named
 use Rattle.routing.specs.RoutingState.{RoutingState, StayWhole}
 use Rattle.routing.specs.Updates.{is_among, is_only_withdrawn}
 use Rattle.routing.proofs.HeardOffers.{left_of}
+use Rattle.routing.proofs.Marking.{no_none, none_if}
 use Rattle.routing.proofs.Places.{same_from_is_prefix}
 use Rattle.routing.proofs.RouteChanges.{IsSet, among_push, is_route-parts, one_more}
 
@@ -348,3 +349,26 @@ ready_left slot attrs withdrawn announced named old brought left h gone =
     stays true false c is = refl
     stays true true false is = sym is
     stays false b c is = refl
+
+-- one to which the slot had none, or whose attributes came back
+pub brought_back : {R : Type 0} (back : Option R) (value : R → PathAttributes) (slot : ℕ) (attrs : PathAttributes) (seen : List Prefix) (named : List NamedPrefix) (first now new : RoutingState) (e : Prefix)
+    → IfNone back (route_at now.adj_in slot e ≡ None) → IfNone back ((s : ℕ) (p : Prefix) → route_at new.adj_in s p ≡ cond (is_route slot e s p) (Some attrs) (route_at now.adj_in s p))
+    → IfSome back (λ r. (new ≡ now) × (value r ≡ attrs) × IsSome (route_at now.adj_in slot e))
+    → ((s : ℕ) (p : Prefix) → IsSome (offer_at now.book s p) → IsSome (route_at now.adj_in s p)) → ((s : ℕ) (p : Prefix) → offer_at new.book s p ≡ offer_at now.book s p) → new.chosen ≡ now.chosen
+    → IsBrought slot attrs seen named first now → IsBrought slot attrs (seen ++ e ∷ []) (named ++ record { prefix = e; replacing = option_map value back } ∷ []) first new
+brought_back None value slot attrs seen named first now new e absent come back routed offers chosen h =
+    let offer : offer_at now.book slot e ≡ None = none_if _ (λ some. no_none _ absent (routed slot e some)) in
+    brought_new slot attrs seen named first now new (record { prefix = e; replacing = None }) refl absent offer come offers chosen h
+brought_back (Some r) value slot attrs seen named first now new e absent come back routed offers chosen h =
+    subst (λ t. IsBrought slot attrs (seen ++ e ∷ []) (named ++ record { prefix = e; replacing = Some (value r) } ∷ []) first t) (sym back.0)
+    (brought_old slot attrs seen named first now (record { prefix = e; replacing = Some (value r) }) (value r) refl back.1 back.2 h)
+
+-- where no route comes and none goes, the same goes again
+pub partial_still : (slot : ℕ) (named : List NamedPrefix) (first now new : RoutingState) → ((s : ℕ) (p : Prefix) → route_at new.adj_in s p ≡ route_at now.adj_in s p) → ((s : ℕ) (p : Prefix) → offer_at new.book s p ≡ offer_at now.book s p)
+    → new.chosen ≡ now.chosen → IsPartial slot named first now → IsPartial slot named first new
+partial_still slot named first now new routes offers chosen h = record {
+  routes = λ s p. ap (λ o. cond (s == slot && is_among p (new_of named)) None o) (routes s p) ∙ h.routes s p;
+  lacked = λ p among. offers slot p ∙ h.lacked p among;
+  offers = λ s p. offers s p ∙ h.offers s p;
+  chosen = chosen ∙ h.chosen;
+}

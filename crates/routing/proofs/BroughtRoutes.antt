@@ -1,12 +1,12 @@
-use Rattle.std.proofs.Common.{◌≡◌, ◌≢◌, ◌<◌, ◌==◌, ◌&&◌, ℕ, Bool, true, false, List, [], ◌∷◌, ◌++◌, All, Option, Some, None, Result, Ok, Err, OnOk, OnErr, cond, refl, sym, ap, ◌∙◌, subst}
-use Rattle.std.specs.Option.{IfSome, IsSome, is_some, option_and_then}
+use Rattle.std.proofs.Common.{◌≡◌, ◌≢◌, ◌&&◌, ℕ, Bool, true, false, List, Option, Some, None, Result, Ok, Err, IfOk, IfNone, OnErr, cond, refl, sym, ap, ◌∙◌, subst}
+use Rattle.std.specs.Option.{IfSome, option_and_then}
 use Rattle.std.specs.Ordering.{is_eq}
-use Rattle.std.proofs.lemmas.Bool.{eq-eqb, eqb-true, ne_eqb}
+use Rattle.std.proofs.lemmas.Bool.{ne_eqb}
 use Rattle.bgp_attr.specs.PathAttributes.{PathAttributes}
 use Rattle.bgp_conf.specs.Configuration.{Configuration, peer_at}
 use Rattle.bgp_conf.specs.declared.conf.ConfiguredPeer.{ConfiguredPeer}
 use Rattle.bgp_fsm.specs.StateTests.{is_established}
-use Rattle.decision.specs.BookContents.{is_prefix, offer_at, rows_of}
+use Rattle.decision.specs.BookContents.{is_prefix, rows_of}
 use Rattle.decision.specs.declared.candidate.Candidate.{Candidate}
 use Rattle.export_rules.specs.declared.export.ExportPeer.{ExportPeer}
 use Rattle.net_prefix.specs.PrefixOrder.{prefix_cmp}
@@ -23,7 +23,6 @@ use Rattle.routing.specs.Tables.{best_at, link_at}
 use Rattle.routing.proofs.Marking.{mark_alike, marked_still, off_prefix}
 use Rattle.routing.proofs.Places.{same_from_is_prefix}
 use Rattle.routing.proofs.RouteChanges.{is_route-parts}
-use Rattle.rib_out.proofs.Prefixes.{is_prefix-refl}
 
 -- Routes that come before they make candidates.
 
@@ -72,15 +71,25 @@ marked_come conf links slot prefix attrs t u marked h = record {
         ap (λ r. export_in conf (best_at r) u.adj_in peer p) h.rows
         ∙ export_other conf (best_at (rows_of t.book)) t.adj_in u.adj_in peer p (λ c best. h.routes c.slot p ∙ ap (λ b. cond b (Some attrs) (route_at t.adj_in c.slot p)) (off p c best (is_prefix prefix p) refl)))
 
--- one came, or none
-pub marked_brought : {T F : Type 0} (result : Result T F) (conf : Configuration) (links : List (ℕ × Linked)) (slot : ℕ) (prefix : Prefix) (attrs : PathAttributes) (t u : RoutingState) → AreMarked conf links t → u.alike ≡ t.alike → u.waiting ≡ t.waiting
-    → OnOk result ((s : ℕ) (p : Prefix) → route_at u.adj_in s p ≡ cond (is_route slot prefix s p) (Some attrs) (route_at t.adj_in s p)) → OnErr result ((s : ℕ) (p : Prefix) → route_at u.adj_in s p ≡ route_at t.adj_in s p)
-    → rows_of u.book ≡ rows_of t.book → IfSome (best_at (rows_of t.book) prefix) (λ c. c.slot ≢ slot) → AreMarked conf links u
-marked_brought (Ok done) conf links slot prefix attrs t u marked alike waiting came refused rows other =
-    marked_come conf links slot prefix attrs t u marked (record { alike = alike; waiting = waiting; routes = came; rows = rows; other = other })
-marked_brought (Err why) conf links slot prefix attrs t u marked alike waiting came refused rows other = record {
+-- none came
+marked_same : (conf : Configuration) (links : List (ℕ × Linked)) (t u : RoutingState) → AreMarked conf links t → u.alike ≡ t.alike → u.waiting ≡ t.waiting → ((s : ℕ) (p : Prefix) → route_at u.adj_in s p ≡ route_at t.adj_in s p)
+    → rows_of u.book ≡ rows_of t.book → AreMarked conf links u
+marked_same conf links t u marked alike waiting same rows = record {
   there = marked.there;
   marks = λ s p within.
       marked_still _ _ t u s p (marked.marks s p within) (subst (λ q. IsAwaited q s p (mark_at conf links t s p).owed) (sym waiting)) (λ o waits listed. subst (λ a. IsListed a s o p) (sym alike) listed)
-      (sym (mark_alike conf links t u s p (ap (λ r. best_at r p) rows) (λ s. refused s p)));
+      (sym (mark_alike conf links t u s p (ap (λ r. best_at r p) rows) (λ s. same s p)));
 }
+
+-- one came, or none
+pub marked_brought : {R F : Type 0} (result : Result (Option R) F) (Back : R → Type 0) (conf : Configuration) (links : List (ℕ × Linked)) (slot : ℕ) (prefix : Prefix) (attrs : PathAttributes) (t u : RoutingState) → AreMarked conf links t
+    → u.alike ≡ t.alike → u.waiting ≡ t.waiting
+    → IfOk result (λ back. IfNone back ((s : ℕ) (p : Prefix) → route_at u.adj_in s p ≡ cond (is_route slot prefix s p) (Some attrs) (route_at t.adj_in s p)))
+    → IfOk result (λ back. IfSome back Back) → ((r : R) → Back r → u.adj_in ≡ t.adj_in)
+    → OnErr result ((s : ℕ) (p : Prefix) → route_at u.adj_in s p ≡ route_at t.adj_in s p)
+    → rows_of u.book ≡ rows_of t.book → IfOk result (λ back. IfNone back (IfSome (best_at (rows_of t.book) prefix) (λ c. c.slot ≢ slot))) → AreMarked conf links u
+marked_brought (Ok None) Back conf links slot prefix attrs t u marked alike waiting came back stays refused rows other =
+    marked_come conf links slot prefix attrs t u marked (record { alike = alike; waiting = waiting; routes = came; rows = rows; other = other })
+marked_brought (Ok (Some r)) Back conf links slot prefix attrs t u marked alike waiting came back stays refused rows other =
+    marked_same conf links t u marked alike waiting (λ s p. ap (λ table. route_at table s p) (stays r back)) rows
+marked_brought (Err why) Back conf links slot prefix attrs t u marked alike waiting came back stays refused rows other = marked_same conf links t u marked alike waiting refused rows

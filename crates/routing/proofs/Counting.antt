@@ -1,7 +1,6 @@
-use Rattle.std.proofs.Common.{◌≡◌, ◌≤◌, ◌+◌, ◌==◌, ◌&&◌, ◌||◌, ◌⊎◌, ℕ, Bool, true, false, not, List, [], ◌∷◌, ◌++◌, length, Option, Some, None, cond, refl, sym, ap, ◌∙◌, subst, inl, inr, arith}
+use Rattle.std.proofs.Common.{◌≡◌, ◌≤◌, ◌+◌, ◌&&◌, ◌||◌, ℕ, Bool, true, false, not, List, [], ◌∷◌, ◌++◌, length, Option, Some, None, cond, refl, sym, ap, ◌∙◌, subst, arith}
 use Rattle.std.specs.Option.{IsSome}
 use Rattle.std.specs.Ordering.{is_eq}
-use Rattle.bgp_attr.specs.PathAttributes.{PathAttributes}
 use Rattle.bgp_msg.specs.MessageSpelling.{front_prefixes}
 use Rattle.net_prefix.specs.PrefixOrder.{IsAbove, prefix_cmp}
 use Rattle.net_prefix.specs.declared.prefix.Prefix.{Prefix}
@@ -12,7 +11,7 @@ use Rattle.routing.specs.Updates.{is_among}
 use Rattle.routing.specs.Chosen.{AreDifferent, Ends, OncePerPrefix}
 use Rattle.routing.specs.RoutingState.{RoutingState}
 use Rattle.routing.proofs.HeardOffers.{both_true}
-use Rattle.routing.proofs.RouteChanges.{Sets, among_push}
+use Rattle.routing.proofs.RouteChanges.{among_push}
 
 -- How often a best route is chosen, while prefixes are walked.
 

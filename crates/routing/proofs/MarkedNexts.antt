@@ -1,11 +1,10 @@
 -- The next prefix of which something is owed, by a queue or by the tables.
-use Rattle.std.proofs.Common.{◌≡◌, ◌≢◌, ◌<◌, ◌≤◌, ◌+◌, ◌^◌, ◌⊎◌, ◌&&◌, not, ℕ, Bool, true, false, List, Option, Some, None, IfSome, IfNone, cond, refl, sym, ap, ◌∙◌, subst, inl, inr, arith}
+use Rattle.std.proofs.Common.{◌≡◌, ◌≢◌, ◌<◌, ◌≤◌, ◌^◌, ◌⊎◌, not, ℕ, Bool, true, false, List, Option, Some, None, IfSome, IfNone, cond, refl, sym, ap, ◌∙◌, subst, inl, inr, arith}
 use Rattle.std.specs.Option.{IsSome, is_some}
 use Rattle.std.specs.Ordering.{is_gt, is_lt, ordering_reverse}
 use Rattle.std.specs.declared.cmp.Ordering.{Ordering}
 use Rattle.std.specs.declared.cmp.Ordering.TheVariants.{Less, Equal, Greater}
 use Rattle.std.proofs.lemmas.Cmp.{upto}
-use Rattle.std.specs.Str.{bytes_eq}
 use Rattle.std.proofs.lemmas.Bool.{cases_eq, cases_lt}
 use Rattle.bgp_conf.specs.Configuration.{Configuration, peer_at}
 use Rattle.bgp_conf.specs.declared.conf.ConfiguredPeer.{ConfiguredPeer}
@@ -22,7 +21,7 @@ use Rattle.rib_out.specs.declared.marks.Owed.{Owed}
 use Rattle.rib_out.specs.declared.marks.Owed.TheVariants.{Announcement, Withdrawal}
 use Rattle.routing.specs.Export.{export_in, export_peer_of}
 use Rattle.routing.specs.Linked.{Linked}
-use Rattle.routing.specs.Marks.{AreMarked, IsMarked, IsMarkedSo, IsNextMarked, IsNextOf, IsNextOwed, Mark, lesser, mark_at, mark_for, mark_of, no_mark, owed_for}
+use Rattle.routing.specs.Marks.{AreMarked, IsMarked, IsMarkedSo, IsNextMarked, IsNextOf, IsNextOwed, Mark, lesser, mark_at, mark_for, mark_of, no_mark}
 use Rattle.routing.specs.Places.{rank_of}
 use Rattle.routing.specs.RoutingState.{RoutingState}
 use Rattle.routing.specs.Tables.{best_at, link_at}

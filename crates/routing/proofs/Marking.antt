@@ -15,10 +15,9 @@ use Rattle.net_prefix.specs.declared.prefix.Prefix.{Prefix}
 use Rattle.rib_in.specs.LatestRoutes.{RouteTable, is_route, route_at}
 use Rattle.rib_out.specs.Alike.{AlikeState, IsListed}
 use Rattle.rib_out.specs.Held.{asked_at, held_at}
-use Rattle.rib_out.specs.Waiting.{IsAwaited, WaitingState}
+use Rattle.rib_out.specs.Waiting.{IsAwaited}
 use Rattle.rib_out.specs.declared.marks.Owed.{Owed}
 use Rattle.rib_out.specs.declared.marks.Owed.TheVariants.{Announcement}
-use Rattle.rib_out.proofs.Prefixes.{is_prefix-refl}
 use Rattle.routing.specs.Export.{export_in, export_peer_of, exported_at}
 use Rattle.routing.specs.Linked.{Linked}
 use Rattle.routing.specs.Marks.{AreFew, AreMarked, AreMarkedBut, AreMarkedFor, IsMarked, IsUnmarked, Mark, mark_at, mark_for, mark_of, no_mark}

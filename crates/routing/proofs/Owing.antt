@@ -1,13 +1,11 @@
-use Rattle.std.proofs.Common.{◌≡◌, ◌<◌, ℕ, ◌&&◌, not, Bool, true, false, List, Option, Some, None, IfSome, IfNone, cond, refl, sym, ap, ◌∙◌, subst}
-use Rattle.std.specs.Option.{IsSome, is_some, option_and_then}
-use Rattle.std.specs.Ordering.{is_gt}
+use Rattle.std.proofs.Common.{◌≡◌, ℕ, ◌&&◌, not, Bool, true, false, List, Option, Some, None, cond, refl, sym, ap, ◌∙◌}
+use Rattle.std.specs.Option.{IsSome, option_and_then}
 use Rattle.std.specs.Str.{bytes_eq}
 use Rattle.bgp_conf.specs.Configuration.{Configuration, peer_at}
 use Rattle.bgp_conf.specs.declared.conf.ConfiguredPeer.{ConfiguredPeer}
 use Rattle.bgp_fsm.specs.StateTests.{is_established}
 use Rattle.bgp_fsm.specs.declared.state.State.TheVariants.{Established}
 use Rattle.decision.specs.BookContents.{rows_of}
-use Rattle.net_prefix.specs.PrefixOrder.{prefix_cmp, IsAbove}
 use Rattle.net_prefix.specs.declared.payload.Vrp.{Vrp}
 use Rattle.net_prefix.specs.declared.prefix.Prefix.{Prefix}
 use Rattle.rib_out.specs.Alike.{AlikeState}

@@ -1,5 +1,5 @@
 -- What an input of a session makes of its slot and its routes (RFC 4271 sections 3.2 and 8.2.2).
-use Rattle.std.specs.Prelude.{◌≡◌, ℕ, List, []}
+use Rattle.std.specs.Prelude.{◌≡◌, ℕ, []}
 use Rattle.decision.specs.BookContents.{offer_at, BookState}
 use Rattle.loc_rib.specs.RibTables.{RibTables}
 use Rattle.net_prefix.specs.declared.prefix.Prefix.{Prefix}

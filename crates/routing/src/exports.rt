@@ -1,8 +1,9 @@
 //! What is exported of a prefix to a peer (RFC 4271 section 9.1.3).
 ghost use Rattle.std.specs.Prelude.{◌≡◌, ◌≤◌, ◌<◌, ◌^◌, length};
 ghost use Rattle.std.specs.Bool.{OnTrue};
-ghost use Rattle.std.specs.Option.{option_map};
+ghost use Rattle.std.specs.Option.{option_and_then, option_map};
 ghost use Rattle.bgp_conf.specs.Configuration.{peer_at};
+ghost use Rattle.bgp_conf.specs.PeerPolicies.{export_action};
 ghost use Rattle.decision.specs.BookContents.{rows_of};
 ghost use Rattle.bgp_attr.specs.PeerKinds.{kind_between};
 ghost use Rattle.export_rules.specs.Export.{AreAccepted, IsComplete, IsSender, Tells, most_attributes};
@@ -16,11 +17,13 @@ use bgp_attr::Attrs;
 use bgp_conf::{Conf, SeenRoute};
 use bgp_msg::MAX_MESSAGE;
 use decision::{Book, Candidate, LOCAL_SLOT};
-use export_rules::{ExportPeer, export_of};
+use export_rules::{ExportPeer, Rewrite, export_of, rewrite_of};
 use loc_rib::Ribs;
 use net_prefix::{Asn, Prefix};
+use policy::Action;
 use std::alloc::Allocator;
 use std::marker::Model;
+use std::rc::Rc;
 
 /// The octets of one message, or of its attributes.
 pub type Octets = ArrayVec<u8, MAX_MESSAGE>;
@@ -42,7 +45,7 @@ pub fn export_peer<A: Allocator + Clone>(conf: &Conf<A>, slot: u8) -> Option<Exp
 #[derive(Drop)]
 pub struct Chosen<'a, A: Allocator> {
     candidate: Candidate,
-    attrs: &'a Attrs<A>,
+    attrs: &'a Rc<Attrs<A>, A>,
 }
 
 impl<'a, A: Allocator> Model for Chosen<'a, A> {
@@ -51,7 +54,7 @@ impl<'a, A: Allocator> Model for Chosen<'a, A> {
 
     ghost Value = { Candidate × PathAttributes };
 
-    ghost view = { λ c. (c.candidate, c.attrs.now) };
+    ghost view = { λ c. (c.candidate, c.attrs.now.value) };
 }
 
 /// The best route of a prefix, where there is one.
@@ -99,9 +102,56 @@ pub fn export_chosen<A: Allocator + Clone>(
     ensures accepted { OnTrue result (IsSender peer.now → IsComplete chosen.now.0 chosen.now.1 → AreAccepted (kind_between peer.now.asn peer.now.own) octets.new.items) }
 {
     octets.clear();
-    let seen = seen(conf.own(), prefix, &chosen.candidate, chosen.attrs);
-    let action = conf.export(peer.slot, &seen);
+    let action = export_action(conf, chosen, peer, prefix);
     export_of(&chosen.candidate, chosen.attrs, peer, action, octets)
+}
+
+// What the peer's export policy makes of a prefix with this best route.
+fn export_action<A: Allocator + Clone>(
+    conf: &Conf<A>,
+    chosen: &Chosen<'_, A>,
+    peer: &ExportPeer,
+    prefix: Prefix,
+) -> Action
+    ensures { result ≡ export_action conf.now peer.now.slot (selected_of conf.now.own prefix chosen.now.0 chosen.now.1) }
+{
+    let seen = seen(conf.own(), prefix, &chosen.candidate, chosen.attrs);
+    conf.export(peer.slot, &seen)
+}
+
+/// What is exported of a prefix, before it is written: the attributes of its best route, and how they are changed.
+#[derive(Drop)]
+pub struct ExportedRoute<'a, A: Allocator> {
+    pub attrs: &'a Rc<Attrs<A>, A>,
+    pub rewrite: Rewrite,
+}
+
+impl<'a, A: Allocator> Model for ExportedRoute<'a, A> {
+    ghost use Rattle.std.specs.Prelude.{List, ℕ, Option};
+    ghost use Rattle.export_rules.specs.Rewriting.{written};
+
+    ghost Value = { Option (List ℕ) };
+
+    ghost view = { λ e. written e.rewrite e.attrs.now.value };
+}
+
+/// What is exported of a prefix to this peer, of which nothing is written yet: none where the best route isn't exported by
+/// its policy.
+pub fn exported_route<'a, A: Allocator + Clone, B: Book<A>>(
+    conf: &Conf<A>,
+    ribs: &'a Ribs<A, B>,
+    peer: &ExportPeer,
+    prefix: Prefix,
+) -> Option<ExportedRoute<'a, A>>
+    ensures { option_and_then (λ e. e) result ≡ export_in conf.now (best_at (rows_of ribs.now.book)) ribs.now.adj_in peer.now prefix }
+{
+    let chosen = chosen_route(ribs, prefix)?;
+    let action = export_action(conf, &chosen, peer, prefix);
+    let rewrite = rewrite_of(&chosen.candidate, peer, action)?;
+    Some(ExportedRoute {
+        attrs: chosen.attrs,
+        rewrite,
+    })
 }
 
 // The best route of a prefix as export policies see it: as it was received.

@@ -32,7 +32,7 @@ pub use candidates::{
     choose_again, choose_slot, choose_touched, choose_turned, choose_within, judge_network,
     remade_at,
 };
-pub use exports::{Octets, export, export_peer, place};
+pub use exports::{ExportedRoute, Octets, export, export_peer, exported_route, place};
 pub use link::Link;
 pub use message::{Standard, take_front};
 pub use routing::{Links, Routing, slots_end};

@@ -107,8 +107,8 @@ impl<A: Allocator + Clone, B: Book<A>> Routing<A, B> {
         announced
     }
 
-    /// A slot without a route to the prefix has this one from now on, which makes no candidate yet. Where memory is refused,
-    /// all is as before.
+    /// A slot without a route to the prefix has this one from now on, which makes no candidate yet. Where it has one nothing
+    /// changes, and the attributes come back. Where memory is refused, all is as before.
     pub fn bring(
         &mut self,
         conf: &Conf<A>,
@@ -116,10 +116,11 @@ impl<A: Allocator + Clone, B: Book<A>> Routing<A, B> {
         slot: u8,
         prefix: Prefix,
         attrs: Rc<Attrs<A>, A>,
-    ) -> Result<(), AllocError>
-        requires absent { route_at self.old.adj_in slot prefix ≡ None }
+    ) -> Result<Option<Rc<Attrs<A>, A>>, AllocError>
         requires marked { AreMarked conf.now links.now.entries self.old }
-        ensures routes { OnOk result ((s : ℕ) (p : ThePrefix) → route_at self.new.adj_in s p ≡ (if is_route slot prefix s p then Some attrs.value else route_at self.old.adj_in s p)) }
+        ensures absent { IfOk result (λ back. IfNone back (route_at self.old.adj_in slot prefix ≡ None)) }
+        ensures routes { IfOk result (λ back. IfNone back ((s : ℕ) (p : ThePrefix) → route_at self.new.adj_in s p ≡ (if is_route slot prefix s p then Some attrs.value else route_at self.old.adj_in s p))) }
+        ensures back { IfOk result (λ back. IfSome back (λ other. (self.new ≡ self.old) × (other.value ≡ attrs.value) × IsSome (route_at self.old.adj_in slot prefix))) }
         ensures err { OnErr result ((s : ℕ) (p : ThePrefix) → route_at self.new.adj_in s p ≡ route_at self.old.adj_in s p) }
         ensures offers { (s : ℕ) (p : ThePrefix) → offer_at self.new.book s p ≡ offer_at self.old.book s p }
         ensures chosen { self.new.chosen ≡ self.old.chosen }
@@ -589,10 +590,10 @@ fn owed<A: Allocator + Clone>(
         None => false,
     };
     if !is_exported {
-        return match link.adj_out.get(prefix) {
-            Some(_) => Some(Owed::Withdrawal),
-            None => None,
-        };
+        if link.adj_out.is_held(prefix) {
+            return Some(Owed::Withdrawal);
+        }
+        return None;
     }
     if link.adj_out.holds(prefix, octets.as_slice()) && !link.adj_out.is_asked(prefix) {
         return None;

@@ -9,11 +9,11 @@ ghost use Rattle.routing.specs.Packing.{IsNewTo, most_named};
 ghost use Rattle.routing.specs.Places.{rank_of};
 ghost use Rattle.routing.specs.Told.{HasRoom, IsTold, update_saying};
 
-use crate::exports::Octets;
+use crate::exports::{ExportedRoute, Octets};
 use crate::link::Link;
 use bgp_msg::{write_announcement, write_withdrawal};
 use net_prefix::Prefix;
-use rib_out::{AdjOut, RecentOctets, UndoLog};
+use rib_out::{AdjOut, RecentRewrite, UndoLog};
 use std::alloc::{AllocError, Allocator};
 
 /// Tells an Established peer that these prefixes are withdrawn: an UPDATE of it is queued, and the peer doesn't hold them
@@ -31,16 +31,18 @@ pub fn withdraw<A: Allocator + Clone>(link: &mut Link<A>, named: &[Prefix], mess
     link.peer.queue(message.as_slice());
 }
 
-/// Tells an Established peer the attributes of these prefixes: an UPDATE of them is queued, and the peer holds them. Memory
+/// Tells an Established peer these attributes of these prefixes, which are what is exported: an UPDATE of them is queued, and the peer holds them. Memory
 /// is taken only where it holds others, and where that is refused, nothing changes. The UPDATE is written to `message`.
 pub fn announce<A: Allocator + Clone>(
     link: &mut Link<A>,
-    recent: &mut RecentOctets<A>,
+    recent: &mut RecentRewrite<A>,
     undo: &mut UndoLog<A>,
     named: &[Prefix],
+    exported: &ExportedRoute<'_, A>,
     octets: &Octets,
     message: &mut Octets,
 ) -> Result<(), AllocError>
+    requires exported { exported.now ≡ Some octets.now.items }
     requires established { link.old.peer.session.state ≡ Established }
     requires room { HasRoom link.old }
     requires places { All (λ p. rank_of p < 2 ^ 38) named.now }
@@ -51,7 +53,7 @@ pub fn announce<A: Allocator + Clone>(
     ensures err { OnErr result (link.new ≡ link.old) }
     ensures others { OnErr result ((q : ThePrefix) × (is_among q named.now ≡ true) × (held_at link.old.adj_out q ≢ Some octets.now.items)) }
 {
-    hold(&mut link.adj_out, recent, undo, named, octets)?;
+    hold(&mut link.adj_out, recent, undo, named, exported, octets)?;
     write_announcement(octets.as_slice(), named, message);
     link.peer.queue(message.as_slice());
     Ok(())
@@ -60,12 +62,14 @@ pub fn announce<A: Allocator + Clone>(
 // The peer holds these octets of all these prefixes, and has asked for none of them again.
 fn hold<A: Allocator + Clone>(
     adj_out: &mut AdjOut<A>,
-    recent: &mut RecentOctets<A>,
+    recent: &mut RecentRewrite<A>,
     undo: &mut UndoLog<A>,
     named: &[Prefix],
+    exported: &ExportedRoute<'_, A>,
     octets: &Octets,
 ) -> Result<(), AllocError>
-    requires { (q : ThePrefix) × (is_among q named.now ≡ true) × ((held_at adj_out.old q ≢ Some octets.now.items) ⊎ (asked_at adj_out.old q ≡ true)) }
+    requires exported { exported.now ≡ Some octets.now.items }
+    requires news { (q : ThePrefix) × (is_among q named.now ≡ true) × ((held_at adj_out.old q ≢ Some octets.now.items) ⊎ (asked_at adj_out.old q ≡ true)) }
     ensures held { OnOk result ((q : ThePrefix) → held_at adj_out.new q ≡ (if is_among q named.now then Some octets.now.items else held_at adj_out.old q)) }
     ensures asked { OnOk result ((q : ThePrefix) → asked_at adj_out.new q ≡ (if is_among q named.now then false else asked_at adj_out.old q)) }
     ensures err { OnErr result (adj_out.new ≡ adj_out.old) }
@@ -75,8 +79,8 @@ fn hold<A: Allocator + Clone>(
         adj_out.renew_all(named);
         return Ok(());
     }
-    let held = recent.shared(octets.as_slice())?;
-    adj_out.announce_all(named, &held, undo)
+    let sent = recent.sent(exported.attrs, exported.rewrite)?;
+    adj_out.announce_all(named, &sent, undo)
 }
 
 // Whether the peer holds just these octets of all these prefixes, one of which is new to it or was asked for again. Where

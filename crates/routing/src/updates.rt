@@ -212,7 +212,7 @@ fn bring_each<A: Allocator + Clone, B: Book<A>>(
     Ok(())
 }
 
-// The same of one prefix more, which is listed first.
+// The same of one prefix more. It is listed only where memory for that is there before.
 fn bring<A: Allocator + Clone, B: Book<A>>(
     conf: &Conf<A>,
     links: &Links<A>,
@@ -228,14 +228,12 @@ fn bring<A: Allocator + Clone, B: Book<A>>(
     ensures refused { OnErr result ((first : RoutingState) (seen : List ThePrefix) → IsBrought slot attrs.now.value seen named.old.items first routing.old → IsPartial slot named.new.items first routing.new) }
 {
     let attrs = attrs.clone()?;
-    if routing.ribs().route(slot, prefix).is_some() {
-        let replacing = Some(attrs);
-        named.push(Announced { prefix, replacing })?;
-        return Ok(());
-    }
-    let replacing = None;
-    named.push(Announced { prefix, replacing })?;
-    routing.bring(conf, links, slot, prefix, attrs)
+    named.reserve(1)?;
+    // A candidate is always one of a route.
+    routing.ribs().is_chosen();
+    let replacing = routing.bring(conf, links, slot, prefix, attrs)?;
+    named.push_reserved(Announced { prefix, replacing });
+    Ok(())
 }
 
 // The routes to the new prefixes go again.

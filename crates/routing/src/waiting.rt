@@ -168,7 +168,7 @@ fn is_waiting<A: Allocator + Clone, B: Book<A>>(
     if export(conf, ribs, peer, prefix, octets) {
         !adj_out.holds(prefix, octets.as_slice()) || adj_out.is_asked(prefix)
     } else {
-        adj_out.get(prefix).is_some()
+        adj_out.is_held(prefix)
     }
 }
 

@@ -91,8 +91,10 @@ fn show_held<A: Allocator + Clone, B: Book<A>, W: Write>(
     slot: u8,
     writer: &mut W,
 ) -> io::Result<()> {
-    for (prefix, octets) in speaker.held(slot).take(MAX_ROWS) {
-        write_answer(writer, Answer::Route(prefix, octets))?;
+    let mut octets = ArrayVec::new();
+    for (prefix, sent) in speaker.held(slot).take(MAX_ROWS) {
+        sent.write(&mut octets);
+        write_answer(writer, Answer::Route(prefix, octets.as_slice()))?;
     }
     Ok(())
 }

@@ -33,6 +33,7 @@ use live_book::LiveBook;
 use loc_rib::{Rows, SlotRoutes};
 use net_prefix::{Prefix, Transport, Vrp};
 use origin_valid::Validity;
+use rib_out::SentAttributes;
 use routing::WaitingPrefixes;
 use rtr_client::ClientState;
 use std::alloc::{Allocator, Global};
@@ -113,8 +114,8 @@ impl<'a, A: Allocator + Clone, B: Book<A>> Iterator for AdjRibIn<'a, A, B> {
     }
 }
 
-/// What a slot's peer was sent and was not taken back, in rising order: each prefix with the octets of its
-/// attributes.
+/// What a slot's peer was sent and was not taken back, in rising order: each prefix with its attributes as they were
+/// sent.
 #[derive(Drop)]
 pub struct HeldRoutes<'a, A: Allocator = Global> {
     pub(crate) held: Option<rib_out::HeldRoutes<'a, A>>,
@@ -131,13 +132,13 @@ impl<'a, A: Allocator> Model for HeldRoutes<'a, A> {
 }
 
 impl<'a, A: Allocator> Iterator for HeldRoutes<'a, A> {
-    type Item = (Prefix, &'a [u8]);
+    type Item = (Prefix, &'a SentAttributes<A>);
 
     ghost next_gives = { YieldsFirstBy (λ item. (item.0, item.1.now)) (λ rest. rest) };
 
     ghost remaining = { item_count (λ rest. rest) };
 
-    fn next(&mut self) -> Option<(Prefix, &'a [u8])> {
+    fn next(&mut self) -> Option<(Prefix, &'a SentAttributes<A>)> {
         match &mut self.held {
             Some(held) => held.next(),
             None => None,

@@ -284,8 +284,10 @@ fn write_held<B: Book<Global>>(
     behind: Place,
     page: &mut Vec<u8>,
 ) -> io::Result<Option<Place>> {
-    for (prefix, octets) in speaker.held_after(slot, prefix_of(behind)).take(MAX_ROWS) {
-        writeln!(page, "{}", Answer::Route(prefix, octets))?;
+    let mut octets = ArrayVec::new();
+    for (prefix, sent) in speaker.held_after(slot, prefix_of(behind)).take(MAX_ROWS) {
+        sent.write(&mut octets);
+        writeln!(page, "{}", Answer::Route(prefix, octets.as_slice()))?;
         if is_full(page.as_slice()) {
             return Ok(Some(Place::Prefix(prefix)));
         }

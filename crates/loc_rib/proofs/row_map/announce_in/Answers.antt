@@ -50,6 +50,10 @@ pub returns-in-Ok-Occupied-clause-another : goal.returns-in-Ok-Occupied-clause-a
 returns-in-Ok-Occupied-clause-another g c = λ another.
     c.announce.ensures.another (another_put c.args.rows.now.entries _ c.args.prefix c.into_mut.result.now c.announce.new.self (written g c).puts (had g c) another)
 
+pub returns-in-Ok-Occupied-clause-made : goal.returns-in-Ok-Occupied-clause-made
+returns-in-Ok-Occupied-clause-made g c =
+    through_ok c.announce.result _ _ c.announce.ensures.made (λ counts another. counts (λ same. another (ap (λ o. offer_of o c.args.slot) (had g c) ∙ same)))
+
 -- where there was none
 begun : (g : Over) (c : After-rows-in-Ok-2-1 g) → IsPut c.args.rows.now.entries c.rows-in-Ok-2-1.given.0.entries c.args.prefix c.offer.new.self
 begun g c =

@@ -1,4 +1,4 @@
-use Rattle.std.proofs.Common.{◌≡◌, All, None, Some, ap, refl, sym, subst, ◌∙◌}
+use Rattle.std.proofs.Common.{◌≡◌, All, None, Some, ap, sym, subst, ◌∙◌}
 use Rattle.std.specs.Option.{IsSome, option_copied_mut}
 use Rattle.decision.specs.BookContents.{AreApart, changed}
 use Rattle.loc_rib.proofs.RowTables.{offers_unplaced, rows_set, set_routes}
@@ -10,6 +10,11 @@ pub returns-in_default-clause-offers : goal.returns-in_default-clause-offers
 returns-in_default-clause-offers g c = λ s.
     let none : found c.args.rows.now.entries c.args.prefix ≡ None = sym c.get_mut.ensures.value ∙ ap option_copied_mut c.in_default.is in
     ap (λ m. offer_of (found m.entries c.args.prefix) s) c.get_mut.follows.holds-at-none ∙ offers_unplaced c.args.changes.now (found c.args.rows.now.entries c.args.prefix) none c.requires.routed s
+
+pub returns-in_default-clause-made : goal.returns-in_default-clause-made
+returns-in_default-clause-made g c = λ s another.
+    let none : found c.args.rows.now.entries c.args.prefix ≡ None = sym c.get_mut.ensures.value ∙ ap option_copied_mut c.in_default.is in
+    absurd (another (sym (offers_unplaced c.args.changes.now (found c.args.rows.now.entries c.args.prefix) none c.requires.routed s)))
 
 pub change-requires-clause-routed : goal.change-requires-clause-routed
 change-requires-clause-routed g c =

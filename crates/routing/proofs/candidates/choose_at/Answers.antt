@@ -1,4 +1,4 @@
-use Rattle.std.proofs.Common.{◌≡◌, ◌∙◌, ap, subst, sym}
+use Rattle.std.proofs.Common.{◌≡◌, ap, subst, sym}
 use Rattle.decision.specs.BookContents.{AreApart, changed, offer_at}
 use Rattle.routing.specs.Offers.{AreRemade}
 use Rattle.routing.specs.RoutingState.{RoutingState}

@@ -1,6 +1,6 @@
 use Rattle.std.proofs.Common.{◌∙◌, refl, arith}
 use Rattle.routing.specs.Marks.{mark_at}
-use Rattle.routing.specs.RoutingState.{RoutingState, with_waiting}
+use Rattle.routing.specs.RoutingState.{with_waiting}
 use Rattle.routing.proofs.Marking.{PeersBelow-all, PeersBelow-more, PeersBelow-none, mark_listed}
 use Rattle.routing.proofs.routing.mark_each.Goals as goal
 

@@ -1,4 +1,4 @@
-use Rattle.std.proofs.Common.{◌≡◌, ◌∙◌, inl, inr, sym}
+use Rattle.std.proofs.Common.{◌∙◌, inl, inr, sym}
 use Rattle.routing.proofs.told.is_renewal.Goals as goal
 
 pub returns-then-is_none_asked-clause-one : goal.returns-then-is_none_asked-clause-one

@@ -1,4 +1,4 @@
-use Rattle.std.proofs.Common.{◌≡◌, ◌==◌, ◌∙◌, cond, sym, subst}
+use Rattle.std.proofs.Common.{◌≡◌, ◌==◌, cond, sym, subst}
 use Rattle.std.specs.Option.{IfSome}
 use Rattle.decision.specs.BookContents.{AreApart, offer_at}
 use Rattle.routing.specs.Tables.{payloads_under}

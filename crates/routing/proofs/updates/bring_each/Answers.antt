@@ -1,4 +1,3 @@
-use Rattle.routing.proofs.BroughtPrefixes.{brought_none}
 use Rattle.routing.proofs.Results.{OnErr-is}
 use Rattle.routing.proofs.RouteChanges.{seen_next}
 use Rattle.routing.proofs.updates.bring_each.Goals as goal

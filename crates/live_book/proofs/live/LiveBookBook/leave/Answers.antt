@@ -36,6 +36,10 @@ returns-clause-kept g c =
 pub returns-clause-never : goal.returns-clause-never
 returns-clause-never g c = λ none. c.change.ensures.never (gone_idle c.args.slot c.args.self.now.places c.requires.0.distinct none)
 
+pub returns-clause-gone : goal.returns-clause-gone
+returns-clause-gone g c = λ some.
+    c.change.ensures.made (λ same. some (sym (ap (λ ps. candidate_of ps c.args.slot) same) ∙ gone_none c.args.slot c.args.self.now.places))
+
 pub returns-clause-chosen : goal.returns-clause-chosen
 returns-clause-chosen g c = λ another.
     let is : IsKept _ = subst IsKept (sym c.self.view_is) c.change.ensures.kept in

@@ -1,4 +1,4 @@
-use Rattle.std.proofs.Common.{◌≡◌, ap, refl, sym, ◌∙◌}
+use Rattle.std.proofs.Common.{ap, sym, ◌∙◌}
 use Rattle.decision.specs.BookContents.{offer_at, rows_of}
 use Rattle.loc_rib.proofs.RowSteps.{always_ok, apart_same, through_err, through_ok}
 use Rattle.loc_rib.proofs.RowTables.{best_another, best_stays, offer_is, offers_lifted, route_is, routes_lifted}
@@ -50,3 +50,9 @@ returns-clause-another g c =
 pub returns-clause-same : goal.returns-clause-same
 returns-clause-same g c =
     rw (← c.self.view_is) (λ same. c.announce_in.ensures.same (sym (offer_is c.self.inside.rows.entries c.args.slot c.args.prefix) ∙ same))
+
+pub returns-clause-made : goal.returns-clause-made
+returns-clause-made g c =
+    rw (← c.self.view_is)
+    (through_ok c.announce_in.result _ _ c.announce_in.ensures.made
+    (λ counts another. counts (λ same. another (offer_is c.self.inside.rows.entries c.args.slot c.args.prefix ∙ same))))

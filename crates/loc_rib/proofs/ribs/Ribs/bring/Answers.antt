@@ -1,15 +1,29 @@
-use Rattle.std.proofs.Common.{Some, ap}
-use Rattle.loc_rib.proofs.RowSteps.{through_err, through_ok}
-use Rattle.loc_rib.proofs.RowTables.{best_of_other, offers_stay, routes_lifted}
-use Rattle.loc_rib.specs.PrefixRows.{adj_in_of}
+use Rattle.std.proofs.Common.{Some, ap, subst, sym, ◌∙◌}
+use Rattle.std.specs.Option.{IsSome}
+use Rattle.loc_rib.proofs.RowSteps.{through_back, through_brought, through_err}
+use Rattle.loc_rib.proofs.RowTables.{best_of_other, offers_stay, route_is, routes_lifted}
+use Rattle.loc_rib.specs.PrefixRows.{RowTable, adj_in_of, book_of}
+use Rattle.loc_rib.specs.RibTables.{RibTables}
 use Rattle.rib_in.specs.LatestRoutes.{route_at}
 use Rattle.loc_rib.proofs.ribs.Ribs.bring.Goals as goal
+
+pub returns-clause-absent : goal.returns-clause-absent
+returns-clause-absent g c =
+    rw (← c.self.view_is)
+    (through_brought c.bring_in.result _ _ c.bring_in.ensures.brought (λ is. route_is c.self.inside.rows.entries c.args.slot c.args.prefix ∙ is.0))
 
 pub returns-clause-routes : goal.returns-clause-routes
 returns-clause-routes g c =
     rw (← c.self.view_is)
-    (through_ok c.bring_in.result _ _ c.bring_in.ensures.routes
-    (routes_lifted (Some c.args.attrs.value) c.self.inside.rows.entries c.bring_in.new.rows.entries c.args.slot c.args.prefix c.bring_in.ensures.others))
+    (through_brought c.bring_in.result _ _ c.bring_in.ensures.brought
+    (λ is. routes_lifted (Some c.args.attrs.value) c.self.inside.rows.entries c.bring_in.new.rows.entries c.args.slot c.args.prefix c.bring_in.ensures.others is.1))
+
+pub returns-clause-back : goal.returns-clause-back
+returns-clause-back g c =
+    let view : RowTable → RibTables = λ es. record { adj_in = adj_in_of es; book = book_of es; chosen = c.self.inside.meter.count } in
+    rw (← c.self.view_is)
+    (through_back c.bring_in.result _ _ c.bring_in.ensures.back
+    (λ other is. (ap view is.0, is.1, subst IsSome (sym (route_is c.self.inside.rows.entries c.args.slot c.args.prefix)) is.2)))
 
 pub returns-clause-err : goal.returns-clause-err
 returns-clause-err g c =
@@ -21,5 +35,6 @@ returns-clause-offers g c =
 
 pub returns-clause-other : goal.returns-clause-other
 returns-clause-other g c =
-    let none = rw (← c.self.view_is) at c.requires in
-    rw (← c.self.view_is) (best_of_other c.self.inside.rows.entries c.self.invariant c.args.slot c.args.prefix none)
+    rw (← c.self.view_is)
+    (through_brought c.bring_in.result _ _ c.bring_in.ensures.brought
+    (λ is. best_of_other c.self.inside.rows.entries c.self.invariant c.args.slot c.args.prefix (route_is c.self.inside.rows.entries c.args.slot c.args.prefix ∙ is.0)))

@@ -1,9 +1,7 @@
-use Rattle.std.proofs.Common.{◌≡◌, All, ap, sym, subst, ◌∙◌}
+use Rattle.std.proofs.Common.{◌≡◌, subst, sym}
 use Rattle.std.specs.Option.{IsSome}
-use Rattle.decision.specs.BookContents.{changed, offer_at}
+use Rattle.decision.specs.BookContents.{changed}
 use Rattle.loc_rib.proofs.RowTables.{apart_rows, best_another, best_stays, changes_lifted, offer_is, route_is}
-use Rattle.loc_rib.specs.PrefixRows.{adj_in_of, book_of}
-use Rattle.rib_in.specs.LatestRoutes.{route_at}
 use Rattle.loc_rib.proofs.ribs.Ribs.change.Goals as goal
 
 pub change_in-requires-clause-routed : goal.change_in-requires-clause-routed
@@ -32,3 +30,8 @@ pub returns-clause-same : goal.returns-clause-same
 returns-clause-same g c =
     rw (← c.self.view_is) (λ same.
     c.change_in.ensures.same (λ s. subst (λ o. changed c.args.changes.now s o ≡ o) (offer_is c.self.inside.rows.entries s c.args.prefix) (same s)))
+
+pub returns-clause-made : goal.returns-clause-made
+returns-clause-made g c =
+    rw (← c.self.view_is) (λ s another.
+    c.change_in.ensures.made s (λ same. another (subst (λ o. changed c.args.changes.now s o ≡ o) (sym (offer_is c.self.inside.rows.entries s c.args.prefix)) same)))

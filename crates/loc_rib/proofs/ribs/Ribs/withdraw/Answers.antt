@@ -30,3 +30,7 @@ returns-clause-unrouted g c =
 pub returns-clause-never : goal.returns-clause-never
 returns-clause-never g c =
     rw (← c.self.view_is) (λ none. c.withdraw_in.ensures.never (sym (offer_is c.self.inside.rows.entries c.args.slot c.args.prefix) ∙ none))
+
+pub returns-clause-gone : goal.returns-clause-gone
+returns-clause-gone g c =
+    rw (← c.self.view_is) (λ some. c.withdraw_in.ensures.gone (λ none. some (offer_is c.self.inside.rows.entries c.args.slot c.args.prefix ∙ none)))

@@ -1,4 +1,4 @@
-use Rattle.std.proofs.Common.{◌≡◌, Some, None, sym, ap, ◌∙◌}
+use Rattle.std.proofs.Common.{sym}
 use Rattle.loc_rib.proofs.RowSteps.{best_routed, none_there}
 use Rattle.rib_in.specs.LatestRoutes.{route_in}
 use Rattle.loc_rib.proofs.row.Row.best_route.Goals as goal

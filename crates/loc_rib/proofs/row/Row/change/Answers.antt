@@ -1,4 +1,6 @@
-use Rattle.std.proofs.Common.{refl}
+use Rattle.std.proofs.Common.{ap, refl, sym, ◌∙◌}
+use Rattle.decision.specs.BookContents.{candidate_of}
+use Rattle.loc_rib.specs.PrefixRows.{PrefixRow}
 use Rattle.loc_rib.proofs.RowSteps.{change_apart, change_idle, change_offers, row_changed}
 use Rattle.loc_rib.proofs.row.Row.change.Goals as goal
 
@@ -19,6 +21,13 @@ returns-clause-offers g c =
 pub returns-clause-same : goal.returns-clause-same
 returns-clause-same g c = λ same.
     c.change.ensures.never (change_idle c.args.changes.now (record { routes = c.self.inside.routes; kept = g.B.Book.kept c.self.inside.book }) c.self.invariant (rw (← c.self.view_is) at same))
+
+pub returns-clause-made : goal.returns-clause-made
+returns-clause-made g c =
+    let row : PrefixRow = record { routes = c.self.inside.routes; kept = g.B.Book.kept c.self.inside.book } in
+    let routed = rw (← c.self.view_is) at c.requires.routed in
+    rw (← c.self.view_is) (λ s another.
+    c.change.ensures.made (λ same. another (sym (change_offers c.args.changes.now row c.self.invariant routed s) ∙ ap (λ ps. candidate_of ps s) same)))
 
 pub returns-clause-row : goal.returns-clause-row
 returns-clause-row g c =

@@ -1,6 +1,4 @@
-use Rattle.std.proofs.Common.{sym, subst}
 use Rattle.loc_rib.proofs.RowSteps.{row_first}
-use Rattle.loc_rib.specs.PrefixRows.{IsRow, first_route}
 use Rattle.loc_rib.proofs.row.Row.of.Goals as goal
 
 pub invariant_of-result : goal.invariant_of-result

@@ -1,4 +1,4 @@
-use Rattle.std.proofs.Common.{◌≡◌, true, false, ap, sym, ◌∙◌}
+use Rattle.std.proofs.Common.{◌≡◌, true, ap, sym, ◌∙◌}
 use Rattle.std.specs.BTreeMap.{insert_entry}
 use Rattle.std.specs.Option.{is_some}
 use Rattle.std.specs.Ordering.{nat_cmp}
@@ -7,7 +7,7 @@ use Rattle.decision.proofs.NewPlaces.{kept_added}
 use Rattle.decision.specs.BookContents.{is_placed}
 use Rattle.loc_rib.proofs.RowSteps.{offer_made, place_made, place_there, row_put}
 use Rattle.loc_rib.specs.PrefixRows.{IsRow}
-use Rattle.rib_in.proofs.Tables.{one_announced, other_announced}
+use Rattle.rib_in.proofs.RouteLists.{one_announced, other_announced}
 use Rattle.rib_in.specs.LatestRoutes.{route_in}
 use Rattle.rib_in.specs.PrefixRoutes.{IsAnnounced, with_first}
 use Rattle.loc_rib.proofs.row.Row.put.Given.{Over}
@@ -37,7 +37,7 @@ returns-in_default-clause-row g c = replaced_row g c
 announced : (g : Over) (c : goal.After-put g) → IsAnnounced c.args.slot c.args.attrs.value c.self.inside.routes c.put.new.self
 announced g c =
     let is : c.put.new.self ≡ insert_entry nat_cmp c.self.inside.routes c.args.slot c.args.attrs.value =
-    c.put.ensures ∙ ap (λ first. with_first c.replace.new.self first) c.in-Ok.ensures
+    c.put.ensures ∙ ap (λ first. with_first c.replace.new.self first) c.in_ok-route.ensures
     ∙ ap (λ l. insert_entry nat_cmp l c.args.slot c.in-Err.attrs.value) c.in-Err.ensures.err ∙ ap (insert_entry nat_cmp c.self.inside.routes c.args.slot) c.in-Err.ensures.back in
     rw is (one_announced c.args.slot c.args.attrs.value c.self.inside.routes)
 

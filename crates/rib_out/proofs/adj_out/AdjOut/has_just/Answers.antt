@@ -4,8 +4,8 @@ use Rattle.rib_out.proofs.adj_out.AdjOut.has_just.Goals as goal
 
 pub returns-then-not-held : goal.returns-then-not-held
 returns-then-not-held g c =
-    let held : held_at c.args.self.now c.args.prefix ≡ Some c.as_slice.result.now = search rules in
-    let equal : IsTrue c.eq.result ↔ (c.as_slice.result.now ≡ c.args.octets.now) = search rules in
+    let held : held_at c.args.self.now c.args.prefix ≡ Some c.held.inside.sent = search rules in
+    let equal : IsTrue c.are.result ↔ (c.held.inside.sent ≡ c.args.octets.now) = search rules in
     let asked : asked_at c.args.self.now c.args.prefix ≡ false = search rules in
     (λ h. (held ∙ ap Some (equal.0 h), asked), λ both. equal.1 (let same = sym held ∙ both.0 in cc))
 

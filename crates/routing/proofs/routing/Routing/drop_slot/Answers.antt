@@ -1,4 +1,4 @@
-use Rattle.std.proofs.Common.{◌≡◌, ◌∙◌, false, ap, subst}
+use Rattle.std.proofs.Common.{◌≡◌, false, ap, subst}
 use Rattle.std.specs.Option.{IsSome}
 use Rattle.std.specs.Ordering.{is_gt}
 use Rattle.net_prefix.specs.PrefixOrder.{IsAbove, prefix_cmp}

@@ -1,6 +1,5 @@
 use Rattle.std.proofs.Common.{◌≡◌, Some, sym, ap, ◌∙◌}
 use Rattle.bgp_conf.specs.Configuration.{peer_at}
-use Rattle.net_prefix.specs.declared.prefix.Prefix.{Prefix}
 use Rattle.routing.specs.Marks.{mark_at, mark_of}
 use Rattle.routing.specs.RoutingState.{with_waiting}
 use Rattle.routing.proofs.MarkedNexts.{IsPossible, NoneUpTo-all, NoneUpTo-found, NoneUpTo-more, owed_possible}

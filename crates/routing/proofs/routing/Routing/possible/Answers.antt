@@ -1,7 +1,5 @@
-use Rattle.std.proofs.Common.{◌≡◌, ◌≢◌, None, ◌∙◌}
 use Rattle.std.specs.Option.{IsSome}
 use Rattle.decision.specs.BookContents.{rows_of}
-use Rattle.net_prefix.specs.declared.prefix.Prefix.{Prefix}
 use Rattle.rib_out.specs.Held.{held_at}
 use Rattle.routing.specs.Tables.{best_at}
 use Rattle.routing.proofs.MarkedNexts.{next_lesser, next_some}

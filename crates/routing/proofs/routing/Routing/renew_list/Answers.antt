@@ -1,4 +1,4 @@
-use Rattle.std.proofs.Common.{◌≡◌, Bool, true, false, refl, sym, ◌∙◌, subst, inl, inr, Some}
+use Rattle.std.proofs.Common.{◌≡◌, Bool, true, sym, ◌∙◌, subst, inl, inr, Some}
 use Rattle.std.proofs.lemmas.Bool.{cases_eq}
 use Rattle.rib_out.specs.Waiting.{IsAwaited}
 use Rattle.rib_out.specs.declared.marks.Owed.TheVariants.{Announcement}
