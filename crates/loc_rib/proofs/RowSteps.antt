@@ -123,14 +123,6 @@ pub change_idle : (changes : List Change) (row : PrefixRow) → IsRow row → ((
     → with_changes changes row.kept.places ≡ row.kept.places
 change_idle changes row is same = idle_places changes row.kept.places is.kept.0.distinct (λ s there. same s)
 
-one_case : (slot s : ℕ) (candidate : Option Candidate) (f : ℕ → Option Candidate) (b : Bool) → nat_eq slot s ≡ b → f slot ≡ candidate → cond b candidate (f s) ≡ f s
-one_case slot s candidate f true is same = sym same ∙ ap f (same_slot slot s is)
-one_case slot s candidate f false is same = refl
-
--- one change to what is there is none
-pub one_idle : (slot : ℕ) (candidate : Option Candidate) (f : ℕ → Option Candidate) → f slot ≡ candidate → (s : ℕ) → cond (nat_eq slot s) candidate (f s) ≡ f s
-one_idle slot candidate f same s = one_case slot s candidate f (nat_eq slot s) refl same
-
 -- ---- a route that goes
 left_case : (b c place : Bool) (o : Option PathAttributes) → c ≡ b → place ≡ is_some o → cond b false place ≡ is_some (cond c None o)
 left_case true true place o is at = refl

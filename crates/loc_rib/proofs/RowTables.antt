@@ -229,10 +229,6 @@ module _ (old new : RowTable) (prefix : Prefix) (was row : PrefixRow) (puts : Pu
       ap (λ o. route_of o s) now ∙ put s ∙ ap (λ b. cond b (Some a) (route_in was.routes s)) (slot_test slot s)
       ∙ ap (λ o. cond (nat_eq slot s) (Some a) (route_of o s)) (sym there)
 
-  pub routes_changed : (slot : ℕ) (x : Option PathAttributes) → ((s : ℕ) → route_in row.routes s ≡ cond (nat_eq slot s) x (route_in was.routes s))
-      → (s : ℕ) → route_of (found new prefix) s ≡ cond (nat_eq slot s) x (route_of (found old prefix) s)
-  routes_changed slot x put s = ap (λ o. route_of o s) now ∙ put s ∙ ap (λ o. cond (nat_eq slot s) x (route_of o s)) (sym there)
-
   pub offers_put : (f : ℕ → Option Candidate → Option Candidate) → ((s : ℕ) → candidate_of row.kept.places s ≡ f s (candidate_of was.kept.places s))
       → (s : ℕ) → offer_of (found new prefix) s ≡ f s (offer_of (found old prefix) s)
   offers_put f put s = ap (λ o. offer_of o s) now ∙ put s ∙ ap (λ o. f s (offer_of o s)) (sym there)
@@ -269,9 +265,6 @@ module _ (old new : RowTable) (prefix : Prefix) (slot : ℕ) (was : PrefixRow) (
 
   pub offers_ended : IsRow was → is_only slot was.routes ≡ true → (s : ℕ) → offer_of (found new prefix) s ≡ cond (nat_eq slot s) None (offer_of (found old prefix) s)
   offers_ended is only s = ap (λ o. offer_of o s) gone ∙ sym (only_offer slot was is only s) ∙ ap (λ o. cond (nat_eq slot s) None (offer_of o s)) (sym there)
-
-  pub another_ended : best_of (found new prefix) ≢ best_of (found old prefix) → was.kept.best ≢ None
-  another_ended another same = another (ap best_of gone ∙ sym same ∙ ap best_of (sym there))
 
 -- where there is no row, nothing can change
 pub offers_unplaced : (changes : List Change) (row : Option PrefixRow) → row ≡ None → All (λ c. IsSome (route_of row c.slot)) changes → (s : ℕ) → offer_of row s ≡ changed changes s (offer_of row s)

@@ -109,6 +109,8 @@ impl<A: Allocator + Clone, B: Book<A>> Ribs<A, B> {
         ensures routes { IfOk result (λ back. IfNone back ((s : ℕ) (p : ThePrefix) → route_at self.new.adj_in s p ≡ (if is_route slot prefix s p then Some attrs.value else route_at self.old.adj_in s p))) }
         ensures back { IfOk result (λ back. IfSome back (λ other. (self.new ≡ self.old) × (other.value ≡ attrs.value) × IsSome (route_at self.old.adj_in slot prefix))) }
         ensures err { OnErr result ((s : ℕ) (p : ThePrefix) → route_at self.new.adj_in s p ≡ route_at self.old.adj_in s p) }
+        // A slot that has a route takes no memory.
+        ensures lacked { OnErr result (route_at self.old.adj_in slot prefix ≡ None) }
         ensures offers { (s : ℕ) (p : ThePrefix) → offer_at self.new.book s p ≡ offer_at self.old.book s p }
         ensures rows { rows_of self.new.book ≡ rows_of self.old.book }
         ensures other { IfOk result (λ back. IfNone back (IfSome (best_at (rows_of self.old.book) prefix) (λ c. c.slot ≢ slot))) }

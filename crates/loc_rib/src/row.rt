@@ -87,6 +87,8 @@ impl<A: Allocator + Clone, B: Book<A>> Row<A, B> {
         ensures offers { (s : ℕ) → candidate_of self.new.kept.places s ≡ candidate_of self.old.kept.places s }
         ensures best { self.new.kept.best ≡ self.old.kept.best }
         ensures err { OnErr result (self.new ≡ self.old) }
+        // A slot that has a route takes no memory.
+        ensures lacked { OnErr result (route_in self.old.routes slot ≡ None) }
         ensures row { IsRow self.new }
     {
         let _ = &self.routes;

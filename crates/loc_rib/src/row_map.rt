@@ -73,6 +73,7 @@ pub(crate) fn bring_in<A: Allocator + Clone, B: Book<A>>(
     ensures offers { (s : ℕ) → offer_of (found rows.new.entries prefix) s ≡ offer_of (found rows.old.entries prefix) s }
     ensures best { rows_of (book_of rows.new.entries) ≡ rows_of (book_of rows.old.entries) }
     ensures err { OnErr result (rows.new.entries ≡ rows.old.entries) }
+    ensures lacked { OnErr result (route_of (found rows.old.entries prefix) slot ≡ None) }
 {
     match rows.entry(prefix) {
         Ok(Entry::Occupied(entry)) => entry.into_mut().bring(alloc, slot, attrs),

@@ -106,13 +106,7 @@ put_behind k s a x es b greater rising is = record {
 }
 
 -- ---- taking out
--- the only route is the slot's, and the first
-pub only_apart : (s t : ℕ) (a : PathAttributes) (es : RouteList) → (s ≡ t → ⊥) → is_only t ((s, a) ∷ es) ≡ true → ⊥
-only_apart s t a es apart only =
-    let more : others_of t ((s, a) ∷ es) ≡ (s, a) ∷ others_of t es = rw (not_at s t apart) refl in
-    let none : others_of t ((s, a) ∷ es) ≡ [] = no_length (others_of t ((s, a) ∷ es)) only in
-    cc
-
+-- where there are others behind the slot's route, it isn't the only one
 pub only_higher : {A : Type 0} (s t : ℕ) (a : PathAttributes) (b : Box RouteList A) → AreRoutes s a (Some b) → s ≡ t → is_only t ((s, a) ∷ b.value) ≡ true → ⊥
 only_higher s t a b h same only = let clash : false ≡ true = only_first s t a (Some b) false h same refl ∙ only in cc
 

@@ -1,12 +1,10 @@
 -- What a slot's route makes, or that it makes nothing.
-use Rattle.std.proofs.Common.{◌≡◌, ◌<◌, ◌≤◌, ℕ, Option, Some, None, ap, sym, subst, inl, inr, arith}
-use Rattle.std.specs.Option.{MatchOption}
+use Rattle.std.proofs.Common.{◌≡◌, ◌<◌, ℕ, Option, Some, None, ap, sym, subst, inl, inr, arith}
 use Rattle.bgp_fsm.specs.declared.session.Session.{Session}
-use Rattle.decision.specs.declared.book.Change.{Change}
 use Rattle.decision.specs.declared.candidate.Candidate.{Candidate}
 use Rattle.net_prefix.specs.declared.prefix.Prefix.{Prefix}
-use Rattle.routing.specs.Candidates.{HasNoneAt, IsCandidate}
-use Rattle.routing.specs.Offers.{IsOffer, IsRemade, LacksRoute}
+use Rattle.routing.specs.Candidates.{HasNoneAt}
+use Rattle.routing.specs.Offers.{LacksRoute}
 use Rattle.routing.specs.Tables.{Tables}
 use Rattle.routing.proofs.CandidateLists.{none_routed, of_peer}
 

@@ -1,5 +1,6 @@
 pub mod AddedMarks
 pub mod AskedRoutes
+pub mod FoundPeers
 pub mod LocalNetworks
 pub mod Naming
 pub mod ObeyedExceptions

@@ -13,7 +13,7 @@ use Rattle.bgp_conf.specs.declared.command.Command.TheVariants.{AddPeer, UseIn}
 use Rattle.bgp_conf.specs.declared.command.PeerConf.{PeerConf}
 use Rattle.bgp_conf.specs.declared.conf.ConfiguredPeer.{ConfiguredPeer}
 use Rattle.bgp_conf.specs.declared.refusal.Refusal.{Refusal}
-use Rattle.routing.specs.Linked.{Linked}
+use Rattle.bgp_peer.specs.Slot.{Slot}
 use Rattle.routing.specs.Offers.{IsSound, Offers}
 use Rattle.routing.proofs.SoundOffers.{sound_conf}
 
@@ -47,19 +47,19 @@ sound_added closing conf conf2 offers slot peer sound addresses may peers = soun
     still s found false other at = peers s ∙ ap (λ b. cond b (Some (configured_of peer)) (peer_at conf s)) other ∙ at
 
 -- an insertion puts the slot
-pub put_inserted : (slot : ℕ) (link l : Linked) (f g : ℕ → Option Linked) → ((s : ℕ) → g s ≡ cond (is_at (nat_cmp slot) s) (Some link) (f s)) → link ≡ l
+pub put_inserted : (slot : ℕ) (link l : Slot) (f g : ℕ → Option Slot) → ((s : ℕ) → g s ≡ cond (is_at (nat_cmp slot) s) (Some link) (f s)) → link ≡ l
     → (s : ℕ) → g s ≡ cond (s == slot) (Some l) (f s)
 put_inserted slot link l f g updates is s = updates s ∙ rw (is_eq-nat_cmp slot s, is) refl
 
 same_slot : (slot s : ℕ) → is_at (nat_cmp slot) s ≡ true → s ≡ slot
 same_slot slot s h = let is = sym (is_eq-nat_cmp slot s) ∙ h in eqb-true s slot is
 
-back_at : (slot s : ℕ) (link : Linked) (before : Option Linked) (f : ℕ → Option Linked) (b : Bool) → is_at (nat_cmp slot) s ≡ b → before ≡ f slot → cond b before (cond b (Some link) (f s)) ≡ f s
+back_at : (slot s : ℕ) (link : Slot) (before : Option Slot) (f : ℕ → Option Slot) (b : Bool) → is_at (nat_cmp slot) s ≡ b → before ≡ f slot → cond b before (cond b (Some link) (f s)) ≡ f s
 back_at slot s link before f true at is = is ∙ ap f (sym (same_slot slot s at))
 back_at slot s link before f false at is = refl
 
 -- what was written is put back
-pub put_back : (slot : ℕ) (link : Linked) (before : Option Linked) (f g h : ℕ → Option Linked) → ((s : ℕ) → g s ≡ cond (is_at (nat_cmp slot) s) (Some link) (f s))
+pub put_back : (slot : ℕ) (link : Slot) (before : Option Slot) (f g h : ℕ → Option Slot) → ((s : ℕ) → g s ≡ cond (is_at (nat_cmp slot) s) (Some link) (f s))
     → ((s : ℕ) → h s ≡ cond (is_at (nat_cmp slot) s) before (g s)) → before ≡ f slot → (s : ℕ) → h s ≡ f s
 put_back slot link before f g h updates back was s =
     back s ∙ ap (λ x. cond (is_at (nat_cmp slot) s) before x) (updates s) ∙ back_at slot s link before f _ refl was

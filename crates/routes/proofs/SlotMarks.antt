@@ -25,6 +25,7 @@ use Rattle.rib_out.proofs.HeldTables.{held_at-all_asked}
 use Rattle.routing.specs.Export.{export_in, export_peer_of}
 use Rattle.routing.specs.Linked.{Linked, moved}
 use Rattle.routing.specs.Marks.{AreMarked, AreMarkedFor, IsFollowed, IsMarked, Mark, mark_at, mark_for, mark_of, no_mark}
+use Rattle.routing.specs.Packing.{IsNewTo}
 use Rattle.routing.specs.Told.{IsTold}
 use Rattle.routing.specs.RoutingState.{RoutingState}
 use Rattle.routing.specs.Tables.{best_at, link_at}
@@ -267,3 +268,12 @@ on_true-as false P Q p to = tt
 pub on_false-as : (b : Bool) (P Q : Type 0) → OnFalse b P → (P → Q) → OnFalse b Q
 on_false-as true P Q p to = tt
 on_false-as false P Q p to = to p
+
+-- so it is of a slot whose peer holds this
+pub new_of : (b : Bool) (held : List (Prefix × HeldRoute)) (p : Prefix) (export : Option (List ℕ)) → OnTrue b ((held_at held p ≢ export) ⊎ (asked_at held p ≡ true)) → OnTrue b ((l : Linked) → l.adj_out ≡ held → IsNewTo l p export)
+new_of true held p export news = λ l is. subst (λ a. (held_at a p ≢ export) ⊎ (asked_at a p ≡ true)) (sym is) news
+new_of false held p export news = tt
+
+pub not_new_of : (b : Bool) (held : List (Prefix × HeldRoute)) (p : Prefix) (export : Option (List ℕ)) → OnFalse b ((held_at held p ≢ export) ⊎ (asked_at held p ≡ true) → ⊥) → OnFalse b ((l : Linked) → l.adj_out ≡ held → IsNewTo l p export → ⊥)
+not_new_of true held p export never = tt
+not_new_of false held p export never = λ l is news. never (subst (λ a. (held_at a p ≢ export) ⊎ (asked_at a p ≡ true)) is news)

@@ -1,5 +1,5 @@
 -- What waits for a slot's peer is what is owed to it.
-use Rattle.std.proofs.Common.{◌≡◌, ◌<◌, ◌≤◌, ◌&&◌, ◌||◌, ℕ, Bool, true, false, not, cond, List, [], Option, Some, None, IfSome, IfNone, IsSome, is_some, refl, sym, ap, ◌∙◌, arith}
+use Rattle.std.proofs.Common.{◌≡◌, ◌<◌, ◌≤◌, ◌&&◌, ◌||◌, ℕ, Bool, true, false, not, cond, List, [], Option, Some, None, IfSome, IfNone, IsSome, is_some, refl, sym, ◌∙◌, arith}
 use Rattle.std.specs.List.{list_any}
 use Rattle.std.specs.Option.{option_map}
 use Rattle.std.specs.Ordering.{is_gt}
@@ -18,7 +18,7 @@ use Rattle.rib_out.specs.declared.marks.Owed.TheVariants.{Announcement}
 use Rattle.rib_out.proofs.HeldTables.{held_if_asked}
 use Rattle.routing.specs.Export.{export_in, export_peer_of}
 use Rattle.routing.specs.Linked.{Linked}
-use Rattle.routing.specs.Marks.{AreMarked, IsNextMarked, IsNextOf, mark_for, mark_of, no_mark, owed_for}
+use Rattle.routing.specs.Marks.{AreFew, IsNextMarked, IsNextOf, mark_for, mark_of, no_mark, owed_for}
 use Rattle.routing.specs.RoutesState.{RoutesState}
 use Rattle.routing.specs.Tables.{best_at, link_at}
 use Rattle.routing.specs.Waiting.{differing, is_same, known_prefixes, waiting_at}
@@ -92,5 +92,5 @@ module _ (s : RoutesState) (waiting : WaitingState) (alike : AlikeState) (slot :
   unlinked q (Some peer) (Some l) within beyond = let low = within l refl in absurd (omega (arith, low, beyond))
 
   -- nothing waits for a slot that can't be there
-  pub none_beyond : AreMarked s.conf s.links (routing_of s waiting alike) → 64 ≤ slot → (q : Prefix) → is_waiting s slot q ≡ false
-  none_beyond marked beyond q = unlinked q (peer_at s.conf slot) (link_at s.links slot) (marked.there.within slot) beyond
+  pub none_beyond : AreFew s.links → 64 ≤ slot → (q : Prefix) → is_waiting s slot q ≡ false
+  none_beyond few beyond q = unlinked q (peer_at s.conf slot) (link_at s.links slot) (few.within slot) beyond

@@ -18,6 +18,7 @@ ghost use Rattle.routes.specs.Commands.{DropsPolicy, SetsPolicy, UsesIn, UsesOut
 ghost use Rattle.routing.specs.Linked.{Linked};
 ghost use Rattle.routing.specs.Offers.{AreMadeAgain, AreMadeWhere};
 ghost use Rattle.routing.specs.RoutesState.{BringsNetwork, IsSet, StaysAsIs, tables_in};
+ghost use Rattle.routing.specs.Sent.{peer_in};
 ghost use Rattle.routing.specs.Tables.{link_at};
 
 use crate::routes::Routes;
@@ -25,9 +26,10 @@ use bgp_attr::{Attrs, Mode};
 use bgp_conf::{Command, PeerConf};
 use bgp_fsm::PeerTimers;
 use bgp_msg::OwnOpen;
+use bgp_peer::Peer;
 use decision::{Book, LOCAL_SLOT};
 use net_prefix::Prefix;
-use routing::{Link, Links, choose_again, choose_slot, judge_network};
+use routing::{Links, choose_again, choose_slot, judge_network};
 use std::alloc::{AllocError, Allocator};
 use std::rc::Rc;
 
@@ -52,11 +54,12 @@ impl<A: Allocator + Clone, B: Book<A>> Routes<A, B> {
         ensures err { OnErr result (StaysAsIs self.old self.new) }
         ensures payloads { self.new.payloads ≡ self.old.payloads }
     {
-        let before = put_link(&mut self.links, alloc, slot, own, conf.mode, times)?;
+        let before = put_peer(&mut self.links, alloc, slot, own, conf.mode, times)?;
         if self.conf.apply(command).is_err() {
             put_back(&mut self.links, slot, before);
             return Err(AllocError);
         }
+        self.routing.forget(slot);
         Ok(())
     }
 
@@ -231,31 +234,31 @@ impl<A: Allocator + Clone, B: Book<A>> Routes<A, B> {
 }
 
 // Writes a slot anew, in Idle and disabled. Answers what it was.
-fn put_link<A: Allocator + Clone>(
+fn put_peer<A: Allocator + Clone>(
     links: &mut Links<A>,
     alloc: &A,
     slot: u8,
     own: OwnOpen,
     mode: Mode,
     times: PeerTimers,
-) -> Result<Option<Link<A>>, AllocError>
-    ensures puts { OnOk result ((s : ℕ) → link_at links.new.entries s ≡ (if is_at (nat_cmp slot) s then Some (record { peer = configured own mode times; adj_out = [] }) else link_at links.old.entries s)) }
-    ensures before { IfOk result (λ before. before ≡ link_at links.old.entries slot) }
+) -> Result<Option<Peer<A>>, AllocError>
+    ensures puts { OnOk result ((s : ℕ) → peer_in links.new.entries s ≡ (if is_at (nat_cmp slot) s then Some (configured own mode times) else peer_in links.old.entries s)) }
+    ensures before { IfOk result (λ before. before ≡ peer_in links.old.entries slot) }
     ensures err { OnErr result (links.new.entries ≡ links.old.entries) }
 {
-    let link = Link::new(alloc.clone()?, own, mode, times)?;
-    let before = links.insert(slot, link)?;
+    let peer = Peer::new(alloc.clone()?, own, mode, times)?;
+    let before = links.insert(slot, peer)?;
     Ok(before)
 }
 
 // Makes a slot what it was before it was written.
-fn put_back<A: Allocator + Clone>(links: &mut Links<A>, slot: u8, before: Option<Link<A>>)
-    requires { IsSome (link_at links.old.entries slot) }
-    ensures { (s : ℕ) → link_at links.new.entries s ≡ (if is_at (nat_cmp slot) s then before else link_at links.old.entries s) }
+fn put_back<A: Allocator + Clone>(links: &mut Links<A>, slot: u8, before: Option<Peer<A>>)
+    requires { IsSome (peer_in links.old.entries slot) }
+    ensures { (s : ℕ) → peer_in links.new.entries s ≡ (if is_at (nat_cmp slot) s then before else peer_in links.old.entries s) }
 {
     match before {
-        Some(link) => {
-            let _there = links.insert(slot, link);
+        Some(peer) => {
+            let _there = links.insert(slot, peer);
         }
         None => {
             links.remove(&slot);

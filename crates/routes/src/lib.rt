@@ -1,6 +1,6 @@
 //! Routes: what came from the peers, what the selection makes of it, and what each peer is owed of it.
 //!
-//! **Parts.** `Routes` is the one type that others call. It has the configuration, the payloads that are loaded, a `Link`
+//! **Parts.** `Routes` is the one type that others call. It has the configuration, the payloads that are loaded, a `Peer`
 //! for each slot, the tables (`Routing` of routing) and what was announced lately, for peers to share. Its value
 //! (`RoutesState`) has all of these but what waits: that is where what a peer holds and its export differ, or the peer has
 //! asked for what it holds again (RFC 2918). Routes are judged by the payloads in force: what the configuration's local

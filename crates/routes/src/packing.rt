@@ -20,7 +20,8 @@ use arrayvec::ArrayVec;
 use decision::Book;
 use export_rules::ExportPeer;
 use net_prefix::Prefix;
-use routing::{Link, Octets, place};
+use rib_out::AdjOut;
+use routing::{Octets, place};
 use std::alloc::Allocator;
 
 /// The octets that an UPDATE has for prefixes and attributes: 4,096 without 19 of the header and 4 of the two lengths.
@@ -172,13 +173,10 @@ impl<A: Allocator + Clone, B: Book<A>> Routes<A, B> {
         ensures due { OnTrue result ((l : Linked) → link_at self.now.links slot ≡ Some l → l.peer.session.state ≡ Established → IsDue (export_of self.now slot) (Some octets.now.items) l prefix) }
         ensures other { OnFalse result ((l : Linked) → link_at self.now.links slot ≡ Some l → l.peer.session.state ≡ Established → IsDue (export_of self.now slot) (Some octets.now.items) l prefix → ⊥) }
     {
-        let Some(link) = self.links.get(&slot) else {
-            return false;
-        };
         if !self.is_exported_so(slot, peer, prefix, octets, other) {
             return false;
         }
-        is_new_to(link, prefix, octets)
+        is_new_to(self.routing.held(slot), prefix, octets)
     }
 
     // Whether just these octets are exported of the prefix to the slot's peer.
@@ -199,9 +197,9 @@ impl<A: Allocator + Clone, B: Book<A>> Routes<A, B> {
 }
 
 // Whether these octets of the prefix are new to the slot's peer: it doesn't hold just them, or has asked for them again.
-fn is_new_to<A: Allocator + Clone>(link: &Link<A>, prefix: Prefix, octets: &Octets) -> bool
-    ensures yes { OnTrue result (IsNewTo link.now prefix (Some octets.now.items)) }
-    ensures no { OnFalse result (IsNewTo link.now prefix (Some octets.now.items) → ⊥) }
+fn is_new_to<A: Allocator + Clone>(adj_out: &AdjOut<A>, prefix: Prefix, octets: &Octets) -> bool
+    ensures yes { OnTrue result ((l : Linked) → l.adj_out ≡ adj_out.now → IsNewTo l prefix (Some octets.now.items)) }
+    ensures no { OnFalse result ((l : Linked) → l.adj_out ≡ adj_out.now → IsNewTo l prefix (Some octets.now.items) → ⊥) }
 {
-    !link.adj_out.has_just(prefix, octets.as_slice())
+    !adj_out.has_just(prefix, octets.as_slice())
 }

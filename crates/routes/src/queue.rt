@@ -22,7 +22,7 @@ use decision::Book;
 use export_rules::ExportPeer;
 use net_prefix::Prefix;
 use rib_out::Owed;
-use routing::{Octets, announce, exported_route, withdraw};
+use routing::{Octets, announce, withdraw};
 use std::alloc::{AllocError, Allocator};
 
 impl<A: Allocator + Clone, B: Book<A>> Routes<A, B> {
@@ -67,10 +67,16 @@ impl<A: Allocator + Clone, B: Book<A>> Routes<A, B> {
         ensures payloads { self.new.payloads ≡ self.old.payloads }
     {
         self.name_withdrawals(slot, least, &mut draft.named);
-        let Some(link) = self.links.get_mut(&slot) else {
+        let Some(told) = self.links.get_mut(&slot) else {
             return;
         };
-        withdraw(link, draft.named.as_slice(), &mut draft.message);
+        withdraw(
+            told,
+            &mut self.routing,
+            slot,
+            draft.named.as_slice(),
+            &mut draft.message,
+        );
         self.routing.told_all(slot, draft.named.as_slice());
     }
 
@@ -110,18 +116,19 @@ impl<A: Allocator + Clone, B: Book<A>> Routes<A, B> {
             &mut draft.named,
             &mut draft.other,
         );
-        let Some(exported) = exported_route(&self.conf, self.routing.ribs(), peer, least) else {
-            return Ok(());
-        };
-        let Some(link) = self.links.get_mut(&slot) else {
+        let Some(told) = self.links.get_mut(&slot) else {
             return Ok(());
         };
         announce(
-            link,
+            told,
+            &mut self.routing,
+            &self.conf,
+            peer,
+            least,
+            slot,
             &mut self.recent,
             &mut self.undo,
             draft.named.as_slice(),
-            &exported,
             octets,
             &mut draft.message,
         )?;

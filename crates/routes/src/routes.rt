@@ -26,21 +26,22 @@ ghost use Rattle.routing.specs.Tables.{best_at, link_at};
 ghost use Rattle.routing.specs.Waiting.{waiting_at};
 
 use bgp_conf::Conf;
+use bgp_peer::Peer;
 use decision::Book;
 use export_rules::ExportPeer;
 use loc_rib::{Rows, SlotRoutes};
 use net_prefix::{Asn, Prefix};
 use origin_valid::PayloadTrie;
-use rib_out::{RecentRewrite, UndoLog};
+use rib_out::{AdjOut, RecentRewrite, UndoLog};
 use routing::{
-    Link, Links, Octets, Routing, WaitingPrefixes, choose_touched, export, export_peer, slots_end,
+    Links, Octets, Routing, WaitingPrefixes, choose_touched, export, export_peer, slots_end,
 };
 use std::alloc::{AllocError, Allocator};
 use std::collections::BTreeMap;
 use std::marker::Model;
 use vrp_delta::Delta;
 
-/// What judges the routes, the slots with what their peers hold, and the routes with Loc-RIB and what each peer is owed.
+/// What judges the routes, the slots, and the routes with Loc-RIB, what each peer holds and what it is owed.
 #[derive(Drop)]
 pub struct Routes<A: Allocator + Clone, B: Book<A>> {
     pub(crate) conf: Conf<A>,
@@ -56,23 +57,24 @@ pub struct Routes<A: Allocator + Clone, B: Book<A>> {
 
 impl<A: Allocator + Clone, B: Book<A>> Model for Routes<A, B> {
     ghost use Rattle.decision.specs.BookContents.{offer_at};
-    ghost use Rattle.routing.specs.Marks.{AreMarked};
+    ghost use Rattle.routing.specs.MarksIn.{AreMarkedIn};
     ghost use Rattle.routing.specs.Offers.{IsSound};
     ghost use Rattle.routing.specs.RoutesState.{RoutesState};
+    ghost use Rattle.routing.specs.Sent.{linked};
 
     ghost Value = { RoutesState };
 
     ghost view = { λ r. record {
       conf = r.conf;
       payloads = r.payloads;
-      links = r.links.entries;
+      links = linked r.links.entries r.routing.sent;
       adj_in = r.routing.adj_in;
       book = r.routing.book;
       chosen = r.routing.chosen;
     } };
 
     // Of each prefix there waits for each slot just what its peer is owed.
-    ghost invariant = { λ r. IsSound r.conf (offer_at r.routing.book) × AreMarked r.conf r.links.entries r.routing };
+    ghost invariant = { λ r. IsSound r.conf (offer_at r.routing.book) × AreMarkedIn r.conf r.links.entries r.routing };
 }
 
 impl<A: Allocator + Clone + Copy, B: Book<A>> Routes<A, B> {
@@ -96,7 +98,7 @@ impl<A: Allocator + Clone + Copy, B: Book<A>> Routes<A, B> {
     // These parts, in which there is nothing, as one value.
     fn empty(alloc: A, conf: Conf<A>, routing: Routing<A, B>) -> Self
         requires conf { conf ≡ (begun conf.own).conf }
-        requires routing { routing ≡ started routing.waiting routing.alike }
+        requires routing { routing ≡ started routing.sent routing.waiting routing.alike }
         requires none { (s : ℕ) (p : ThePrefix) → IsAwaited routing.waiting s p None }
         ensures { result ≡ begun conf.own }
     {
@@ -119,11 +121,19 @@ impl<A: Allocator + Clone, B: Book<A>> Routes<A, B> {
         &self.conf
     }
 
-    /// The slot of this number, if it is there.
-    pub fn link(&self, slot: u8) -> Option<&Link<A>>
-        ensures value { option_copied result ≡ link_at self.now.links slot }
+    /// The session of a slot, with its connection's octets, if the slot is there.
+    pub fn peer(&self, slot: u8) -> Option<&Peer<A>>
+        ensures value { option_copied result ≡ option_map (λ l. l.peer) (link_at self.now.links slot) }
     {
         self.links.get(&slot)
+    }
+
+    /// What the peer of a slot holds, if the slot is there.
+    pub fn adj_out(&self, slot: u8) -> Option<&AdjOut<A>>
+        ensures value { option_copied result ≡ option_map (λ l. l.adj_out) (link_at self.now.links slot) }
+    {
+        let _peer = self.links.get(&slot)?;
+        Some(self.routing.held(slot))
     }
 
     /// The number behind that of the last slot; 0 where there is none.
@@ -193,6 +203,7 @@ impl<A: Allocator + Clone, B: Book<A>> Routes<A, B> {
             &self.conf,
             &self.routing,
             export_peer(&self.conf, slot),
+            slot,
             self.links.get(&slot),
         )
     }

@@ -15,7 +15,7 @@ ghost use Rattle.routing.specs.Chosen.{Ends, named_if};
 ghost use Rattle.routing.specs.Heard.{AreOf, IsHeard, KeepsUnnamed, TakesMemoryAt, update_heard};
 ghost use Rattle.routing.specs.Linked.{Linked, taken_of};
 ghost use Rattle.routing.specs.RoutingState.{StayWhole};
-ghost use Rattle.routing.specs.Marks.{AreMarked, IsFollowed};
+ghost use Rattle.routing.specs.MarksIn.{AreMarkedIn, IsFollowedIn};
 ghost use Rattle.routing.specs.RoutesState.{IsSet, StaysKept, TakesInput};
 ghost use Rattle.routing.specs.Tables.{link_at};
 ghost use Rattle.routing.specs.Updates.{sound_update};
@@ -23,7 +23,9 @@ ghost use Rattle.routing.specs.Updates.{sound_update};
 use crate::routes::Routes;
 use bgp_conf::Conf;
 use bgp_fsm::{Effects, Input};
+use bgp_peer::Peer;
 use decision::Book;
+use net_prefix::Transport;
 use routing::{Links, Octets, Routing, Sender, Standard, take_front};
 use std::alloc::{AllocError, Allocator};
 
@@ -39,12 +41,13 @@ impl<A: Allocator + Clone, B: Book<A>> Routes<A, B> {
         ensures payloads { self.new.payloads ≡ self.old.payloads }
         ensures rises { self.old.chosen ≤ self.new.chosen }
     {
-        let Some(link) = self.links.get_mut(&slot) else {
+        let Some(peer) = self.links.get_mut(&slot) else {
             return false;
         };
-        let was_asked = link.adj_out.is_all_asked();
-        let effects = link.input(input, now);
+        let was_asked = self.routing.held(slot).is_all_asked();
+        let effects = peer.input(input, now);
         let asks = effects.refreshed && !was_asked;
+        self.routing.follow(slot, &effects);
         follow(
             &self.conf,
             &self.links,
@@ -66,10 +69,10 @@ impl<A: Allocator + Clone, B: Book<A>> Routes<A, B> {
         ensures rest { self.new ≡ record self.old { links = self.new.links } }
         ensures payloads { self.new.payloads ≡ self.old.payloads }
     {
-        let Some(link) = self.links.get_mut(&slot) else {
+        let Some(peer) = self.links.get_mut(&slot) else {
             return 0;
         };
-        link.push(octets)
+        push_open(peer, octets)
     }
 
     /// Hands out the first octets of a slot's ring, as many as there are and fit, and answers how many; none where the slot
@@ -82,8 +85,8 @@ impl<A: Allocator + Clone, B: Book<A>> Routes<A, B> {
         ensures rest { self.new ≡ record self.old { links = self.new.links } }
         ensures payloads { self.new.payloads ≡ self.old.payloads }
     {
-        let link = self.links.get_mut(&slot)?;
-        Some(link.take(buf))
+        let peer = self.links.get_mut(&slot)?;
+        Some(peer.take(buf))
     }
 
     /// A slot without a peer isn't there any more.
@@ -94,6 +97,7 @@ impl<A: Allocator + Clone, B: Book<A>> Routes<A, B> {
         ensures payloads { self.new.payloads ≡ self.old.payloads }
     {
         self.links.remove(&slot);
+        self.routing.forget(slot);
     }
 
     /// What stands at the front of a slot's rest is to the session: nothing yet, or an input. The routes of an UPDATE of an
@@ -124,12 +128,12 @@ impl<A: Allocator + Clone, B: Book<A>> Routes<A, B> {
         ensures payloads { self.new.payloads ≡ self.old.payloads }
         ensures rises { self.old.chosen ≤ self.new.chosen }
     {
-        let Some(link) = self.links.get(&slot) else {
+        let Some(peer) = self.links.get(&slot) else {
             return Ok(None);
         };
         let sender = Sender {
             slot,
-            identifier: link.peer.identifier(),
+            identifier: peer.identifier(),
         };
         take_front(
             alloc,
@@ -139,10 +143,22 @@ impl<A: Allocator + Clone, B: Book<A>> Routes<A, B> {
             &mut self.routing,
             sender,
             standard,
-            link,
+            peer,
             room,
         )
     }
+}
+
+// Takes octets up to the end of the message at the front, where the connection is open, and answers how many.
+fn push_open<A: Allocator>(peer: &mut Peer<A>, octets: &[u8]) -> usize
+    ensures within { result ≤ length octets.now }
+    ensures count { result ≡ taken_of peer.old octets.now }
+    ensures peer { peer.new ≡ pushed peer.old (take result octets.now) }
+{
+    if peer.transport() != Transport::Open {
+        return 0;
+    }
+    peer.push(octets)
 }
 
 // Leaving Established removes all routes of the session, with the candidates that they make, and nothing waits for its
@@ -156,8 +172,9 @@ fn follow<A: Allocator + Clone, B: Book<A>>(
     effects: &Effects<'_>,
     asks: bool,
 )
-    requires { IsFollowed conf.now links.now.entries slot effects.now asks routing.old }
-    ensures marked { AreMarked conf.now links.now.entries routing.new }
+    requires { IsFollowedIn conf.now links.now.entries slot effects.now asks routing.old }
+    ensures marked { AreMarkedIn conf.now links.now.entries routing.new }
+    ensures sent { routing.new.sent ≡ routing.old.sent }
     ensures routes { (s : ℕ) (prefix : ThePrefix) → route_at routing.new.adj_in s prefix ≡ (if effects.now.left && s == slot then None else route_at routing.old.adj_in s prefix) }
     ensures offers { (s : ℕ) (prefix : ThePrefix) → offer_at routing.new.book s prefix ≡ (if effects.now.left && s == slot then None else offer_at routing.old.book s prefix) }
     ensures chosen { effects.now.left ≡ true → Ends slot routing.old.adj_in routing.old.chosen routing.new.chosen }

@@ -7,6 +7,7 @@ pub mod Exported
 pub mod Feasible
 pub mod HeardOffers
 pub mod KeptOffers
+pub mod LinkedPeers
 pub mod Marking
 pub mod MarkedNexts
 pub mod MergedPrefixes
@@ -17,6 +18,7 @@ pub mod Places
 pub mod RemadeOffers
 pub mod Results
 pub mod RouteChanges
+pub mod SentLists
 pub mod SoundOffers
 pub mod Stretching
 pub mod Taken

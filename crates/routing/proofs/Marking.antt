@@ -1,4 +1,4 @@
-use Rattle.std.proofs.Common.{◌≡◌, ◌≢◌, ◌<◌, ◌≤◌, ◌+◌, ◌^◌, ◌==◌, ◌&&◌, ◌||◌, ◌⊎◌, not, nat_lt, ℕ, Bool, true, false, List, [], ◌∷◌, length, Option, Some, None, Result, Ok, Err, OnOk, OnErr, cond, refl, sym, ap, ◌∙◌, subst, inl, inr, arith}
+use Rattle.std.proofs.Common.{◌≡◌, ◌≢◌, ◌<◌, ◌≤◌, ◌+◌, ◌^◌, ◌==◌, ◌&&◌, ◌||◌, ◌⊎◌, not, nat_lt, ℕ, Bool, true, false, List, [], Option, Some, None, Result, Ok, Err, OnOk, OnErr, cond, refl, sym, ap, ◌∙◌, subst, inl, inr, arith}
 use Rattle.std.specs.Borrow.{Bor}
 use Rattle.std.specs.Option.{IsSome, is_some, option_and_then, option_copied}
 use Rattle.std.specs.Ordering.{is_gt}
@@ -20,7 +20,7 @@ use Rattle.rib_out.specs.declared.marks.Owed.{Owed}
 use Rattle.rib_out.specs.declared.marks.Owed.TheVariants.{Announcement}
 use Rattle.routing.specs.Export.{export_in, export_peer_of, exported_at}
 use Rattle.routing.specs.Linked.{Linked}
-use Rattle.routing.specs.Marks.{AreFew, AreMarked, AreMarkedBut, AreMarkedFor, IsMarked, IsUnmarked, Mark, mark_at, mark_for, mark_of, no_mark}
+use Rattle.routing.specs.Marks.{AreMarked, AreMarkedBut, AreMarkedFor, IsMarked, IsUnmarked, Mark, mark_at, mark_for, mark_of, no_mark}
 use Rattle.routing.specs.Places.{rank_of}
 use Rattle.routing.specs.RoutingState.{RoutingState}
 use Rattle.routing.specs.Tables.{best_at, link_at}
@@ -165,11 +165,6 @@ but_changed conf links prefix t u h same lists best routes = record {
     stays : (s : ℕ) (p : Prefix) (w : Option Owed) → IsAwaited t.waiting s p w → IsAwaited u.waiting s p w
     stays s p w = subst (λ q. IsAwaited q s p w) (sym same)
 
--- where there are no slots
-pub no_links : (links : List (ℕ × Linked)) (s : ℕ) → (0 < length links → ⊥) → link_at links s ≡ None
-no_links [] s none = refl
-no_links (l ∷ links) s none = absurd (none (omega arith))
-
 -- what is owed of the prefix to one slot's peer is marked, and listed where it is announced
 pub record Marks (slot : ℕ) (prefix : Prefix) (conf : Configuration) (links : List (ℕ × Linked)) (t u : RoutingState) : Type 0 where
   pub here : IsMarked (mark_at conf links t slot prefix) u slot prefix
@@ -294,16 +289,14 @@ pub record MarkedUpTo (done : ℕ → Bool) (conf : Configuration) (links : List
 pub record SlotUpTo (conf : Configuration) (links : List (ℕ × Linked)) (slot : ℕ) (first : RoutingState) (after : Option Prefix) (t : RoutingState) : Type 0 where
   pub place : IsPlace after
   pub rest : KeepsTables first t
-  pub there : AreFew links
   pub marked : (done : ℕ → Bool) → AreMarkedFor done conf links first → MarkedUpTo done conf links slot after t
 
 -- the slot's list begins anew
-pub SlotUpTo-none : (conf : Configuration) (links : List (ℕ × Linked)) (slot : ℕ) (first : RoutingState) (alike : AlikeState) → slot < 64 → AreFew links
+pub SlotUpTo-none : (conf : Configuration) (links : List (ℕ × Linked)) (slot : ℕ) (first : RoutingState) (alike : AlikeState) → slot < 64
     → ((s : ℕ) (o : List ℕ) (p : Prefix) → s ≢ slot → IsListed first.alike s o p → IsListed alike s o p) → SlotUpTo conf links slot first None (record first { alike = alike })
-SlotUpTo-none conf links slot first alike within there kept = record {
+SlotUpTo-none conf links slot first alike within kept = record {
   place = tt;
   rest = refl;
-  there = there;
   marked = λ done h. record {
     others = λ s p few other is. record {
       waits = (h.marks s p few is).waits;
@@ -368,7 +361,6 @@ pub SlotUpTo-more : (conf : Configuration) (links : List (ℕ × Linked)) (slot 
 SlotUpTo-more conf links slot first t u after p within h above least place m = record {
   place = place;
   rest = m.rest ∙ ap (λ (x : RoutingState). record x { waiting = u.waiting; alike = u.alike }) h.rest;
-  there = h.there;
   marked = λ done before. MarkedUpTo-more done conf links slot t u after p within (h.marked done before) above least m;
 }
 
@@ -378,7 +370,7 @@ pub SlotUpTo-all : (conf : Configuration) (links : List (ℕ × Linked)) (slot :
 SlotUpTo-all conf links slot first t after h none done before =
     let m = h.marked done before in
     record {
-      there = h.there;
+      there = before.there;
       marks = λ s p within is. elim (cases_eq s slot) [
         | inl same ↦ subst (λ x. IsMarked (mark_at conf links t x p) t x p) (sym same) (here m p)
         | inr other ↦ m.others s p within other (of_others s p other is)

@@ -1,4 +1,4 @@
-use Rattle.std.proofs.Common.{◌≡◌, ℕ, ◌&&◌, not, Bool, true, false, List, Option, Some, None, cond, refl, sym, ap, ◌∙◌}
+use Rattle.std.proofs.Common.{◌≡◌, ℕ, ◌&&◌, not, Bool, true, false, List, [], Option, Some, None, cond, refl, sym, ap, ◌∙◌}
 use Rattle.std.specs.Option.{IsSome, option_and_then}
 use Rattle.std.specs.Str.{bytes_eq}
 use Rattle.bgp_conf.specs.Configuration.{Configuration, peer_at}
@@ -24,9 +24,9 @@ use Rattle.routing.proofs.WaitingLists.{not_established}
 
 -- What a served peer is owed is what waits for its slot.
 
--- the tables, with what waits
+-- the tables, with what waits; what is held is that of the slots
 abbrev pub routing_of : RoutesState → WaitingState → AlikeState → RoutingState
-routing_of s waiting alike = record { adj_in = s.adj_in; book = s.book; chosen = s.chosen; waiting = waiting; alike = alike }
+routing_of s waiting alike = record { adj_in = s.adj_in; book = s.book; chosen = s.chosen; sent = []; waiting = waiting; alike = alike }
 
 -- the routes with these tables
 abbrev pub state_of : Configuration → List Vrp → List (ℕ × Linked) → RoutingState → RoutesState

@@ -6,12 +6,14 @@ pub mod Heard
 pub mod Linked
 pub mod LocRib
 pub mod Marks
+pub mod MarksIn
 pub mod Offers
 pub mod Owing
 pub mod Packing
 pub mod Places
 pub mod RoutesState
 pub mod RoutingState
+pub mod Sent
 pub mod Tables
 pub mod Taken
 pub mod Told

@@ -6,23 +6,25 @@ use Rattle.net_prefix.specs.declared.prefix.Prefix.{Prefix}
 use Rattle.rib_in.specs.LatestRoutes.{RouteTable, route_at}
 use Rattle.rib_out.specs.Alike.{AlikeState}
 use Rattle.rib_out.specs.Waiting.{WaitingState}
+use Rattle.routing.specs.Sent.{SentTable}
 
 -- Adj-RIB-In, the candidates that are kept with Loc-RIB, how often a best route was chosen so far (a count that stays at 2^64 - 1
--- where it has reached it), what waits for each slot, and what is listed of it by the octets that are written
+-- where it has reached it), what each peer holds, what waits for each slot, and what is listed of it by the octets that are written
 pub record RoutingState : Type 0 where
   pub adj_in : RouteTable
   pub book : BookState
   pub chosen : ℕ
+  pub sent : SentTable
   pub waiting : WaitingState
   pub alike : AlikeState
 
--- these routes, with this of what waits and of what is listed
-abbrev pub with_waiting : RibTables → WaitingState → AlikeState → RoutingState
-with_waiting ribs waiting alike = record { adj_in = ribs.adj_in; book = ribs.book; chosen = ribs.chosen; waiting = waiting; alike = alike }
+-- these routes, with this of what is held, of what waits and of what is listed
+abbrev pub with_waiting : RibTables → SentTable → WaitingState → AlikeState → RoutingState
+with_waiting ribs sent waiting alike = record { adj_in = ribs.adj_in; book = ribs.book; chosen = ribs.chosen; sent = sent; waiting = waiting; alike = alike }
 
--- no routes, with this of what waits and of what is listed
-abbrev pub started : WaitingState → AlikeState → RoutingState
-started waiting alike = record { adj_in = []; book = []; chosen = 0; waiting = waiting; alike = alike }
+-- no routes, with this of what is held, of what waits and of what is listed
+abbrev pub started : SentTable → WaitingState → AlikeState → RoutingState
+started sent waiting alike = record { adj_in = []; book = []; chosen = 0; sent = sent; waiting = waiting; alike = alike }
 
 -- no route and no candidate is another, and no best route was chosen
 pub record StayWhole (had has : RouteTable) (before after : BookState) (count now : ℕ) : Type 0 where

@@ -12,7 +12,8 @@ ghost use Rattle.origin_valid.specs.declared.validity.Validity.TheVariants.{NotF
 ghost use Rattle.origin_valid.specs.Stretches.{changed_prefixes, prefixes_of, stretches};
 ghost use Rattle.prefix_trie.specs.CoverWalks.{covers};
 ghost use Rattle.routing.specs.Chosen.{AreDifferent, OncePerPrefix};
-ghost use Rattle.routing.specs.Marks.{AreMarked};
+ghost use Rattle.routing.specs.MarksIn.{AreMarkedIn};
+ghost use Rattle.routing.specs.Sent.{SentTable, linked};
 ghost use Rattle.routing.specs.Offers.{AreMadeAgain, AreMadeAt, AreMadeWhere, AreRemade, IsNextWithin, IsRemade, IsSound, LacksRoute, is_within};
 
 use crate::exports::place;
@@ -219,11 +220,12 @@ pub fn choose_again<A: Allocator + Clone, B: Book<A>>(
     routing: &mut Routing<A, B>,
 )
     requires sound { IsSound conf.now (offer_at routing.old.book) }
-    requires marked { AreMarked conf.now links.now.entries routing.old }
+    requires marked { AreMarkedIn conf.now links.now.entries routing.old }
     ensures sound { IsSound conf.now (offer_at routing.new.book) }
-    ensures marked { AreMarked conf.now links.now.entries routing.new }
+    ensures marked { AreMarkedIn conf.now links.now.entries routing.new }
+    ensures sent { routing.new.sent ≡ routing.old.sent }
     ensures routes { routing.new.adj_in ≡ routing.old.adj_in }
-    ensures made { AreMadeAgain (tables conf.now (payloads_under conf.now payloads.now) links.now.entries routing.old.adj_in) (offer_at routing.old.book) (offer_at routing.new.book) }
+    ensures made { AreMadeAgain (tables conf.now (payloads_under conf.now payloads.now) (linked links.now.entries routing.old.sent) routing.old.adj_in) (offer_at routing.old.book) (offer_at routing.new.book) }
     ensures chosen { (known : List ThePrefix) × AreDifferent (HasRoute routing.old.adj_in) known × (routing.new.chosen ≤ routing.old.chosen + length known) }
     ensures rises { routing.old.chosen ≤ routing.new.chosen }
 {
@@ -246,11 +248,12 @@ pub fn choose_slot<A: Allocator + Clone, B: Book<A>>(
     slot: u8,
 )
     requires sound { IsSound conf.now (offer_at routing.old.book) }
-    requires marked { AreMarked conf.now links.now.entries routing.old }
+    requires marked { AreMarkedIn conf.now links.now.entries routing.old }
     ensures sound { IsSound conf.now (offer_at routing.new.book) }
-    ensures marked { AreMarked conf.now links.now.entries routing.new }
+    ensures marked { AreMarkedIn conf.now links.now.entries routing.new }
+    ensures sent { routing.new.sent ≡ routing.old.sent }
     ensures routes { routing.new.adj_in ≡ routing.old.adj_in }
-    ensures made { AreMadeWhere (tables conf.now (payloads_under conf.now payloads.now) links.now.entries routing.old.adj_in) (λ q. is_some (route_at routing.old.adj_in slot q)) (offer_at routing.old.book) (offer_at routing.new.book) }
+    ensures made { AreMadeWhere (tables conf.now (payloads_under conf.now payloads.now) (linked links.now.entries routing.old.sent) routing.old.adj_in) (λ q. is_some (route_at routing.old.adj_in slot q)) (offer_at routing.old.book) (offer_at routing.new.book) }
     ensures chosen { OncePerPrefix (λ p. IsSome (route_at routing.old.adj_in slot p)) routing.old.chosen routing.new.chosen }
     ensures rises { routing.old.chosen ≤ routing.new.chosen }
 {
@@ -273,11 +276,12 @@ pub fn choose_touched<A: Allocator + Clone, B: Book<A>>(
     change: &Delta<A>,
 )
     requires sound { IsSound conf.now (offer_at routing.old.book) }
-    requires marked { AreMarked conf.now links.now.entries routing.old }
+    requires marked { AreMarkedIn conf.now links.now.entries routing.old }
     ensures sound { IsSound conf.now (offer_at routing.new.book) }
-    ensures marked { AreMarked conf.now links.now.entries routing.new }
+    ensures marked { AreMarkedIn conf.now links.now.entries routing.new }
+    ensures sent { routing.new.sent ≡ routing.old.sent }
     ensures routes { routing.new.adj_in ≡ routing.old.adj_in }
-    ensures made { AreMadeWhere (tables conf.now (payloads_under conf.now payloads.now) links.now.entries routing.old.adj_in) (is_within (stretches (changed_prefixes (behind conf.now.exceptions change.now)))) (offer_at routing.old.book) (offer_at routing.new.book) }
+    ensures made { AreMadeWhere (tables conf.now (payloads_under conf.now payloads.now) (linked links.now.entries routing.old.sent) routing.old.adj_in) (is_within (stretches (changed_prefixes (behind conf.now.exceptions change.now)))) (offer_at routing.old.book) (offer_at routing.new.book) }
     ensures chosen { OncePerPrefix (λ p. (is_within (stretches (changed_prefixes (behind conf.now.exceptions change.now))) p ≡ true) × HasRoute routing.old.adj_in p) routing.old.chosen routing.new.chosen }
     ensures rises { routing.old.chosen ≤ routing.new.chosen }
 {
@@ -296,11 +300,12 @@ pub fn choose_turned<A: Allocator + Clone, B: Book<A>>(
     loaded: &BTreeSet<Vrp, A>,
 )
     requires sound { IsSound conf.now (offer_at routing.old.book) }
-    requires marked { AreMarked conf.now links.now.entries routing.old }
+    requires marked { AreMarkedIn conf.now links.now.entries routing.old }
     ensures sound { IsSound conf.now (offer_at routing.new.book) }
-    ensures marked { AreMarked conf.now links.now.entries routing.new }
+    ensures marked { AreMarkedIn conf.now links.now.entries routing.new }
+    ensures sent { routing.new.sent ≡ routing.old.sent }
     ensures routes { routing.new.adj_in ≡ routing.old.adj_in }
-    ensures made { AreMadeWhere (tables conf.now (payloads_under conf.now payloads.now) links.now.entries routing.old.adj_in) (is_within (stretches (prefixes_of (filter (is_turned conf.now.exceptions turned) loaded.now.keys)))) (offer_at routing.old.book) (offer_at routing.new.book) }
+    ensures made { AreMadeWhere (tables conf.now (payloads_under conf.now payloads.now) (linked links.now.entries routing.old.sent) routing.old.adj_in) (is_within (stretches (prefixes_of (filter (is_turned conf.now.exceptions turned) loaded.now.keys)))) (offer_at routing.old.book) (offer_at routing.new.book) }
     ensures chosen { OncePerPrefix (λ p. (is_within (stretches (prefixes_of (filter (is_turned conf.now.exceptions turned) loaded.now.keys))) p ≡ true) × HasRoute routing.old.adj_in p) routing.old.chosen routing.new.chosen }
     ensures rises { routing.old.chosen ≤ routing.new.chosen }
 {
@@ -318,11 +323,12 @@ pub fn choose_within<A: Allocator + Clone, B: Book<A>>(
     stretch: Prefix,
 )
     requires sound { IsSound conf.now (offer_at routing.old.book) }
-    requires marked { AreMarked conf.now links.now.entries routing.old }
+    requires marked { AreMarkedIn conf.now links.now.entries routing.old }
     ensures sound { IsSound conf.now (offer_at routing.new.book) }
-    ensures marked { AreMarked conf.now links.now.entries routing.new }
+    ensures marked { AreMarkedIn conf.now links.now.entries routing.new }
+    ensures sent { routing.new.sent ≡ routing.old.sent }
     ensures routes { routing.new.adj_in ≡ routing.old.adj_in }
-    ensures made { AreMadeWhere (tables conf.now (payloads_under conf.now payloads.now) links.now.entries routing.old.adj_in) (covers stretch) (offer_at routing.old.book) (offer_at routing.new.book) }
+    ensures made { AreMadeWhere (tables conf.now (payloads_under conf.now payloads.now) (linked links.now.entries routing.old.sent) routing.old.adj_in) (covers stretch) (offer_at routing.old.book) (offer_at routing.new.book) }
     ensures chosen { OncePerPrefix (λ p. (covers stretch p ≡ true) × HasRoute routing.old.adj_in p) routing.old.chosen routing.new.chosen }
     ensures rises { routing.old.chosen ≤ routing.new.chosen }
 {
@@ -382,11 +388,12 @@ fn choose_at<A: Allocator + Clone, B: Book<A>>(
 )
     requires routed { HasRoute routing.old.adj_in prefix }
     requires sound { IsSound conf.now (offer_at routing.old.book) }
-    requires marked { AreMarked conf.now links.now.entries routing.old }
+    requires marked { AreMarkedIn conf.now links.now.entries routing.old }
     ensures sound { IsSound conf.now (offer_at routing.new.book) }
-    ensures marked { AreMarked conf.now links.now.entries routing.new }
+    ensures marked { AreMarkedIn conf.now links.now.entries routing.new }
+    ensures sent { routing.new.sent ≡ routing.old.sent }
     ensures routes { routing.new.adj_in ≡ routing.old.adj_in }
-    ensures made { AreMadeAt (tables conf.now (payloads_under conf.now payloads.now) links.now.entries routing.old.adj_in) prefix (offer_at routing.old.book) (offer_at routing.new.book) }
+    ensures made { AreMadeAt (tables conf.now (payloads_under conf.now payloads.now) (linked links.now.entries routing.old.sent) routing.old.adj_in) prefix (offer_at routing.old.book) (offer_at routing.new.book) }
     ensures chosen { routing.new.chosen ≤ routing.old.chosen + 1 }
     ensures rises { routing.old.chosen ≤ routing.new.chosen }
 {
@@ -402,7 +409,7 @@ fn remade<A: Allocator + Clone, B: Book<A>>(
     ribs: &Ribs<A, B>,
     prefix: Prefix,
 ) -> Changes
-    ensures { AreRemade (tables conf.now (payloads_under conf.now payloads.now) links.now.entries ribs.now.adj_in) prefix result.items }
+    ensures { (sent : SentTable) → AreRemade (tables conf.now (payloads_under conf.now payloads.now) (linked links.now.entries sent) ribs.now.adj_in) prefix result.items }
 {
     let mut changes = Changes::new();
     for slot in 0..LOCAL_SLOT + 1 {
@@ -423,7 +430,7 @@ pub fn remade_at<A: Allocator + Clone, B: Book<A>>(
     prefix: Prefix,
 ) -> Option<Change>
     requires { slot ≤ 64 }
-    ensures { MatchOption result (LacksRoute (tables conf.now (payloads_under conf.now payloads.now) links.now.entries ribs.now.adj_in) slot prefix) (IsRemade (tables conf.now (payloads_under conf.now payloads.now) links.now.entries ribs.now.adj_in) slot prefix) }
+    ensures { (sent : SentTable) → MatchOption result (LacksRoute (tables conf.now (payloads_under conf.now payloads.now) (linked links.now.entries sent) ribs.now.adj_in) slot prefix) (IsRemade (tables conf.now (payloads_under conf.now payloads.now) (linked links.now.entries sent) ribs.now.adj_in) slot prefix) }
 {
     if slot == LOCAL_SLOT {
         return remade_network(conf, payloads, ribs, prefix);
@@ -457,11 +464,11 @@ fn remade_route<A: Allocator + Clone, B: Book<A>>(
     prefix: Prefix,
 ) -> Option<Change>
     requires { slot < 64 }
-    ensures { MatchOption result (LacksRoute (tables conf.now (payloads_under conf.now payloads.now) links.now.entries ribs.now.adj_in) slot prefix) (IsRemade (tables conf.now (payloads_under conf.now payloads.now) links.now.entries ribs.now.adj_in) slot prefix) }
+    ensures { (sent : SentTable) → MatchOption result (LacksRoute (tables conf.now (payloads_under conf.now payloads.now) (linked links.now.entries sent) ribs.now.adj_in) slot prefix) (IsRemade (tables conf.now (payloads_under conf.now payloads.now) (linked links.now.entries sent) ribs.now.adj_in) slot prefix) }
 {
-    let link = links.get(&slot)?;
+    let peer = links.get(&slot)?;
     let attrs = ribs.route(slot, prefix)?;
-    let candidate = candidate(conf, slot, link.peer.identifier(), attrs);
+    let candidate = candidate(conf, slot, peer.identifier(), attrs);
     Some(Change {
         slot,
         candidate: judge_route(conf, payloads, prefix, attrs, candidate),

@@ -14,12 +14,12 @@ ghost use Rattle.routing.specs.Updates.{NeedsMemory, sound_update};
 ghost use Rattle.routing.specs.Heard.{AreOf, IsHeard, KeepsUnnamed, TakesMemoryAt, update_heard};
 ghost use Rattle.routing.specs.Chosen.{named_if};
 ghost use Rattle.routing.specs.RoutingState.{StayWhole};
-ghost use Rattle.routing.specs.Marks.{AreMarked};
+ghost use Rattle.routing.specs.MarksIn.{AreMarkedIn};
+ghost use Rattle.routing.specs.Sent.{linked_as};
 ghost use Rattle.routing.specs.Tables.{payloads_under};
 ghost use Rattle.routing.specs.Offers.{IsSound, KeepsHeard};
 
 use crate::exports::Octets;
-use crate::link::Link;
 use crate::routing::{Links, Routing};
 use crate::updates::{Sender, take_update};
 use bgp_attr::{PeerKind, UpdateFault};
@@ -29,6 +29,7 @@ use bgp_msg::{
     Expected, Fault, Frame, MessageType, Notification, Step, is_ipv4_unicast, read_open,
     read_update,
 };
+use bgp_peer::Peer;
 use decision::Book;
 use origin_valid::PayloadTrie;
 use std::alloc::{AllocError, Allocator};
@@ -50,31 +51,32 @@ pub fn take_front<'r, A: Allocator + Clone, B: Book<A>>(
     routing: &mut Routing<A, B>,
     sender: Sender,
     standard: Standard,
-    link: &Link<A>,
+    peer: &Peer<A>,
     room: &'r mut Octets,
 ) -> Result<Option<Input<'r>>, AllocError>
     requires sound { IsSound conf.now (offer_at routing.old.book) }
-    requires marked { AreMarked conf.now links.now.entries routing.old }
+    requires marked { AreMarkedIn conf.now links.now.entries routing.old }
     ensures sound { IsSound conf.now (offer_at routing.new.book) }
-    ensures marked { AreMarked conf.now links.now.entries routing.new }
+    ensures marked { AreMarkedIn conf.now links.now.entries routing.new }
+    ensures sent { routing.new.sent ≡ routing.old.sent }
     ensures input { IfOk result (λ found. (terms : Terms) → AreOf terms standard
-        → found ≡ option_map (input_of link.now.peer.session.state terms) (meaning link.now.peer.rest)) }
+        → found ≡ option_map (input_of peer.now.session.state terms) (meaning peer.now.rest)) }
     ensures routes { OnOk result ((terms : Terms) → AreOf terms standard
-        → IsHeard sender.slot (option_and_then (update_heard link.now.peer.session.state terms) (meaning link.now.peer.rest)) routing.old.adj_in routing.new.adj_in) }
+        → IsHeard sender.slot (option_and_then (update_heard peer.now.session.state terms) (meaning peer.now.rest)) routing.old.adj_in routing.new.adj_in) }
     ensures unnamed { OnOk result ((terms : Terms) → AreOf terms standard
-        → KeepsUnnamed sender.slot (option_and_then (update_heard link.now.peer.session.state terms) (meaning link.now.peer.rest)) routing.old.book routing.new.book) }
-    ensures kept { OnOk result (KeepsHeard conf.now (payloads_under conf.now payloads.now) sender link.now.peer.session.state routing.old routing.new) }
+        → KeepsUnnamed sender.slot (option_and_then (update_heard peer.now.session.state terms) (meaning peer.now.rest)) routing.old.book routing.new.book) }
+    ensures kept { OnOk result (KeepsHeard conf.now (payloads_under conf.now payloads.now) sender peer.now.session.state routing.old routing.new) }
     ensures refused { OnErr result (StayWhole routing.old.adj_in routing.new.adj_in routing.old.book routing.new.book routing.old.chosen routing.new.chosen) }
-    ensures memory { OnErr result (TakesMemoryAt standard.kind link.now) }
+    ensures memory { OnErr result (TakesMemoryAt standard.kind (linked_as routing.old.sent sender.slot peer.now)) }
     ensures chosen { OnOk result ((terms : Terms) → AreOf terms standard
-        → routing.new.chosen ≤ routing.old.chosen + named_if (option_and_then (update_heard link.now.peer.session.state terms) (meaning link.now.peer.rest))) }
+        → routing.new.chosen ≤ routing.old.chosen + named_if (option_and_then (update_heard peer.now.session.state terms) (meaning peer.now.rest))) }
     ensures rises { routing.old.chosen ≤ routing.new.chosen }
 {
-    match link.peer.front() {
+    match peer.front() {
         Step::Need => Ok(None),
         Step::Faulty(fault) => Ok(Some(tell(&Fault::Header(fault), room))),
         Step::Message(frame, _) => {
-            let state = link.peer.state();
+            let state = peer.state();
             let input = judge(
                 alloc, conf, payloads, links, routing, sender, standard, state, frame, room,
             )?;
@@ -97,9 +99,10 @@ fn judge<'r, A: Allocator + Clone, B: Book<A>>(
     room: &'r mut Octets,
 ) -> Result<Input<'r>, AllocError>
     requires sound { IsSound conf.now (offer_at routing.old.book) }
-    requires marked { AreMarked conf.now links.now.entries routing.old }
+    requires marked { AreMarkedIn conf.now links.now.entries routing.old }
     ensures sound { IsSound conf.now (offer_at routing.new.book) }
-    ensures marked { AreMarked conf.now links.now.entries routing.new }
+    ensures marked { AreMarkedIn conf.now links.now.entries routing.new }
+    ensures sent { routing.new.sent ≡ routing.old.sent }
     ensures input { IfOk result (λ found. (terms : Terms) → AreOf terms standard
         → found ≡ input_of state terms (WholeMessage frame.entry.kind frame.entry.body.now)) }
     ensures routes { OnOk result ((terms : Terms) → AreOf terms standard
@@ -159,9 +162,10 @@ fn judge_update<'r, A: Allocator + Clone, B: Book<A>>(
     room: &'r mut Octets,
 ) -> Result<Input<'r>, AllocError>
     requires sound { IsSound conf.now (offer_at routing.old.book) }
-    requires marked { AreMarked conf.now links.now.entries routing.old }
+    requires marked { AreMarkedIn conf.now links.now.entries routing.old }
     ensures sound { IsSound conf.now (offer_at routing.new.book) }
-    ensures marked { AreMarked conf.now links.now.entries routing.new }
+    ensures marked { AreMarkedIn conf.now links.now.entries routing.new }
+    ensures sent { routing.new.sent ≡ routing.old.sent }
     ensures input { IfOk result (λ found. found ≡ update_input (update_fault standard.kind body.now)) }
     ensures routes { OnOk result (IsHeard sender.slot (sound_update standard.kind body.now (update_fault standard.kind body.now)) routing.old.adj_in routing.new.adj_in) }
     ensures unnamed { OnOk result (KeepsUnnamed sender.slot (sound_update standard.kind body.now (update_fault standard.kind body.now)) routing.old.book routing.new.book) }

@@ -15,36 +15,41 @@ ghost use Rattle.rib_out.specs.Held.{held_at, is_among};
 ghost use Rattle.rib_out.specs.Waiting.{IsAwaited};
 ghost use Rattle.rib_out.specs.declared.marks.Owed.TheVariants.{Announcement};
 ghost use Rattle.routing.specs.Chosen.{Ends};
-ghost use Rattle.routing.specs.Linked.{Linked};
+ghost use Rattle.routing.specs.Linked.{Linked, adj_out_after};
 ghost use Rattle.rib_out.specs.declared.marks.Owed.{Owed as TheOwed};
-ghost use Rattle.routing.specs.Marks.{AreFew, AreMarked, AreMarkedBut, AreMarkedFor, IsMarked, IsMarkedSo, IsNextMarked, IsNextOf, IsNextOwed, IsUnmarked, lesser, mark_at, mark_of};
+ghost use Rattle.routing.specs.Marks.{IsMarked, IsMarkedSo, IsNextOf, lesser, mark_of};
+ghost use Rattle.routing.specs.MarksIn.{AreFewIn, AreMarkedButIn, AreMarkedForIn, AreMarkedIn, IsNextMarkedIn, IsNextOwedIn, IsUnmarkedIn, mark_in};
+ghost use Rattle.routing.specs.Sent.{linked, peer_in, sent_to};
+ghost use Rattle.bgp_peer.specs.Slot.{Slot};
 ghost use Rattle.routing.specs.RoutingState.{started, with_waiting};
 ghost use Rattle.routing.specs.Export.{chosen_in};
 ghost use Rattle.routing.specs.Tables.{best_at, link_at};
 
 use crate::exports::{Chosen, Octets, chosen_route, export, export_chosen, export_peer, place};
-use crate::link::Link;
+use crate::sent::SentTables;
 use bgp_attr::Attrs;
 use bgp_conf::Conf;
-use bgp_fsm::State;
+use bgp_fsm::{Effects, State};
+use bgp_peer::Peer;
 use decision::{Book, Candidate, Change};
 use loc_rib::Ribs;
 use net_prefix::Prefix;
-use rib_out::{AlikePrefixes, Owed, Waiting};
+use rib_out::{AdjOut, AlikePrefixes, Owed, Waiting};
 use std::alloc::{AllocError, Allocator};
 use std::collections::BTreeMap;
 use std::marker::Model;
 use std::rc::Rc;
 
 /// The slots, by their numbers.
-pub type Links<A> = BTreeMap<u8, Link<A>, A>;
+pub type Links<A> = BTreeMap<u8, Peer<A>, A>;
 
-/// The routes that came, the candidates that they make with Loc-RIB, and what waits for each Established peer: of each
-/// prefix a withdrawal, an announcement or nothing. What waits to be announced is listed by the octets that are written.
-/// Where memory was refused to a slot's queue, what waits for it is found in the tables.
+/// The routes that came, the candidates that they make with Loc-RIB, what each peer was sent, and what waits for each
+/// Established peer: of each prefix a withdrawal, an announcement or nothing. What waits to be announced is listed by the
+/// octets that are written. Where memory was refused to a slot's queue, what waits for it is found in the tables.
 #[derive(Drop)]
 pub struct Routing<A: Allocator + Clone, B: Book<A>> {
     pub(crate) ribs: Ribs<A, B>,
+    pub(crate) sent: SentTables<A>,
     waiting: Waiting<A>,
     alike: AlikePrefixes<A>,
 }
@@ -54,22 +59,25 @@ impl<A: Allocator + Clone, B: Book<A>> Model for Routing<A, B> {
 
     ghost Value = { RoutingState };
 
-    ghost view = { λ t. record { adj_in = t.ribs.adj_in; book = t.ribs.book; chosen = t.ribs.chosen; waiting = t.waiting; alike = t.alike } };
+    ghost view = { λ t. record { adj_in = t.ribs.adj_in; book = t.ribs.book; chosen = t.ribs.chosen; sent = t.sent; waiting = t.waiting; alike = t.alike } };
 }
 
 impl<A: Allocator + Clone, B: Book<A>> Routing<A, B> {
     /// No routes, and nothing waits.
     pub fn new(alloc: A) -> Result<Self, AllocError>
-        ensures state { IfOk result (λ t. t ≡ started t.waiting t.alike) }
+        ensures state { IfOk result (λ t. t ≡ started t.sent t.waiting t.alike) }
+        ensures sent { IfOk result (λ t. (s : ℕ) → sent_to t.sent s ≡ []) }
         ensures waiting { IfOk result (λ t. (s : ℕ) (p : ThePrefix) → IsAwaited t.waiting s p None) }
         ensures none { IfOk result (λ t. (s : ℕ) (o : List ℕ) (p : ThePrefix) → is_listed t.alike s o p ≡ false) }
         ensures whole { IfOk result (λ t. (s : ℕ) → s < 64 → has_slot t.alike.whole s ≡ true) }
     {
         let waiting = Waiting::new(alloc.clone()?)?;
         let alike = AlikePrefixes::new(alloc.clone()?);
+        let sent = SentTables::new(alloc.clone()?)?;
         let ribs = Ribs::new(alloc)?;
         Ok(Routing {
             ribs,
+            sent,
             waiting,
             alike,
         })
@@ -88,7 +96,7 @@ impl<A: Allocator + Clone, B: Book<A>> Routing<A, B> {
     ) -> Result<(), AllocError>
         requires named { IfSome candidate (λ c. c.slot ≡ slot) }
         requires apart { AreApart (λ s. if slot == s then candidate else offer_at self.old.book s prefix) }
-        requires marked { AreMarked conf.now links.now.entries self.old }
+        requires marked { AreMarkedIn conf.now links.now.entries self.old }
         ensures routes { OnOk result ((s : ℕ) (p : ThePrefix) → route_at self.new.adj_in s p ≡ (if is_route slot prefix s p then Some attrs.value else route_at self.old.adj_in s p)) }
         ensures offers { OnOk result ((s : ℕ) (p : ThePrefix) → offer_at self.new.book s p ≡ (if is_route slot prefix s p then candidate else offer_at self.old.book s p)) }
         ensures err { OnErr result (((s : ℕ) (p : ThePrefix) → route_at self.new.adj_in s p ≡ route_at self.old.adj_in s p) × ((s : ℕ) (p : ThePrefix) → offer_at self.new.book s p ≡ offer_at self.old.book s p) × (rows_of self.new.book ≡ rows_of self.old.book)) }
@@ -99,7 +107,8 @@ impl<A: Allocator + Clone, B: Book<A>> Routing<A, B> {
         ensures same { offer_at self.old.book slot prefix ≡ candidate → self.new.chosen ≡ self.old.chosen }
         ensures refused { OnErr result (self.new.chosen ≡ self.old.chosen) }
         ensures rises { self.old.chosen ≤ self.new.chosen }
-        ensures marked { AreMarked conf.now links.now.entries self.new }
+        ensures sent { self.new.sent ≡ self.old.sent }
+        ensures marked { AreMarkedIn conf.now links.now.entries self.new }
     {
         self.unlist(conf, links, prefix);
         let announced = self.ribs.announce(slot, prefix, attrs, candidate);
@@ -117,28 +126,32 @@ impl<A: Allocator + Clone, B: Book<A>> Routing<A, B> {
         prefix: Prefix,
         attrs: Rc<Attrs<A>, A>,
     ) -> Result<Option<Rc<Attrs<A>, A>>, AllocError>
-        requires marked { AreMarked conf.now links.now.entries self.old }
+        requires marked { AreMarkedIn conf.now links.now.entries self.old }
         ensures absent { IfOk result (λ back. IfNone back (route_at self.old.adj_in slot prefix ≡ None)) }
         ensures routes { IfOk result (λ back. IfNone back ((s : ℕ) (p : ThePrefix) → route_at self.new.adj_in s p ≡ (if is_route slot prefix s p then Some attrs.value else route_at self.old.adj_in s p))) }
         ensures back { IfOk result (λ back. IfSome back (λ other. (self.new ≡ self.old) × (other.value ≡ attrs.value) × IsSome (route_at self.old.adj_in slot prefix))) }
         ensures err { OnErr result ((s : ℕ) (p : ThePrefix) → route_at self.new.adj_in s p ≡ route_at self.old.adj_in s p) }
+        // A slot that has a route takes no memory.
+        ensures lacked { OnErr result (route_at self.old.adj_in slot prefix ≡ None) }
         ensures offers { (s : ℕ) (p : ThePrefix) → offer_at self.new.book s p ≡ offer_at self.old.book s p }
         ensures chosen { self.new.chosen ≡ self.old.chosen }
-        ensures marked { AreMarked conf.now links.now.entries self.new }
+        ensures sent { self.new.sent ≡ self.old.sent }
+        ensures marked { AreMarkedIn conf.now links.now.entries self.new }
     {
         self.ribs.bring(slot, prefix, attrs)
     }
 
     /// The slot has no route to the prefix any more.
     pub fn withdraw(&mut self, conf: &Conf<A>, links: &Links<A>, slot: u8, prefix: Prefix)
-        requires { AreMarked conf.now links.now.entries self.old }
+        requires { AreMarkedIn conf.now links.now.entries self.old }
         ensures routes { (s : ℕ) (p : ThePrefix) → route_at self.new.adj_in s p ≡ (if is_route slot prefix s p then None else route_at self.old.adj_in s p) }
         ensures offers { (s : ℕ) (p : ThePrefix) → offer_at self.new.book s p ≡ (if is_route slot prefix s p then None else offer_at self.old.book s p) }
         ensures chosen { self.new.chosen ≤ self.old.chosen + 1 }
         ensures unrouted { route_at self.old.adj_in slot prefix ≡ None → self.new.chosen ≡ self.old.chosen }
         ensures never { offer_at self.old.book slot prefix ≡ None → self.new.chosen ≡ self.old.chosen }
         ensures rises { self.old.chosen ≤ self.new.chosen }
-        ensures marked { AreMarked conf.now links.now.entries self.new }
+        ensures sent { self.new.sent ≡ self.old.sent }
+        ensures marked { AreMarkedIn conf.now links.now.entries self.new }
     {
         if self.ribs.route(slot, prefix).is_none() {
             return;
@@ -150,13 +163,14 @@ impl<A: Allocator + Clone, B: Book<A>> Routing<A, B> {
 
     /// The slot's session has ended: none of its routes is kept.
     pub fn drop_slot(&mut self, conf: &Conf<A>, links: &Links<A>, slot: u8)
-        requires { AreMarked conf.now links.now.entries self.old }
+        requires { AreMarkedIn conf.now links.now.entries self.old }
         ensures routes { (s : ℕ) (p : ThePrefix) → route_at self.new.adj_in s p ≡ (if s == slot then None else route_at self.old.adj_in s p) }
         ensures offers { (s : ℕ) (p : ThePrefix) → offer_at self.new.book s p ≡ (if s == slot then None else offer_at self.old.book s p) }
         // A best route is chosen once at most for each prefix to which the slot had a route.
         ensures chosen { Ends slot self.old.adj_in self.old.chosen self.new.chosen }
         ensures rises { self.old.chosen ≤ self.new.chosen }
-        ensures marked { AreMarked conf.now links.now.entries self.new }
+        ensures sent { self.new.sent ≡ self.old.sent }
+        ensures marked { AreMarkedIn conf.now links.now.entries self.new }
     {
         let mut after = None;
         while let Some(prefix) = self.ribs.slot_prefix_after(slot, after) {
@@ -174,17 +188,44 @@ impl<A: Allocator + Clone, B: Book<A>> Routing<A, B> {
         requires routed { All (λ c. IsSome (route_at self.old.adj_in c.slot prefix)) changes.now }
         requires named { All (λ c. IfSome c.candidate (λ route. route.slot ≡ c.slot)) changes.now }
         requires apart { AreApart (λ s. changed changes.now s (offer_at self.old.book s prefix)) }
-        requires marked { AreMarked conf.now links.now.entries self.old }
+        requires marked { AreMarkedIn conf.now links.now.entries self.old }
         ensures routes { self.new.adj_in ≡ self.old.adj_in }
         ensures offers { (s : ℕ) (p : ThePrefix) → offer_at self.new.book s p ≡ (if is_prefix prefix p then changed changes.now s (offer_at self.old.book s p) else offer_at self.old.book s p) }
         ensures chosen { self.new.chosen ≤ self.old.chosen + 1 }
         ensures same { ((s : ℕ) → changed changes.now s (offer_at self.old.book s prefix) ≡ offer_at self.old.book s prefix) → self.new.chosen ≡ self.old.chosen }
         ensures rises { self.old.chosen ≤ self.new.chosen }
-        ensures marked { AreMarked conf.now links.now.entries self.new }
+        ensures sent { self.new.sent ≡ self.old.sent }
+        ensures marked { AreMarkedIn conf.now links.now.entries self.new }
     {
         self.unlist(conf, links, prefix);
         self.ribs.change(prefix, changes);
         self.mark_peers(conf, links, prefix);
+    }
+
+    /// What the slot's peer holds.
+    pub fn held(&self, slot: u8) -> &AdjOut<A>
+        requires { slot < 64 }
+        ensures { result.now ≡ sent_to self.now.sent slot }
+    {
+        self.sent.of(slot)
+    }
+
+    /// The slot's peer holds nothing.
+    pub fn forget(&mut self, slot: u8)
+        ensures sent { (s : ℕ) → sent_to self.new.sent s ≡ (if s == slot then [] else sent_to self.old.sent s) }
+        ensures rest { self.new ≡ record self.old { sent = self.new.sent } }
+    {
+        self.sent.clear(slot);
+    }
+
+    /// The slot's session has taken an input with these effects: entering Established begins with nothing sent, and leaving
+    /// it forgets what was sent. A peer that asks for all routes again asks for each prefix that it holds.
+    pub fn follow(&mut self, slot: u8, effects: &Effects<'_>)
+        requires { slot < 64 }
+        ensures sent { (s : ℕ) → sent_to self.new.sent s ≡ (if s == slot then adj_out_after effects.now (sent_to self.old.sent s) else sent_to self.old.sent s) }
+        ensures rest { self.new ≡ record self.old { sent = self.new.sent } }
+    {
+        self.sent.follow(slot, effects);
     }
 
     /// Nothing waits for the slot.
@@ -202,10 +243,10 @@ impl<A: Allocator + Clone, B: Book<A>> Routing<A, B> {
     /// The slot's session has entered Established: its peer waits for all that is exported to it.
     pub fn enter(&mut self, conf: &Conf<A>, links: &Links<A>, slot: u8)
         requires slot { slot < 64 }
-        requires fresh { (l : Linked) → link_at links.now.entries slot ≡ Some l → l.adj_out ≡ [] }
-        requires unmarked { IsUnmarked conf.now links.now.entries slot self.old }
+        requires fresh { (l : Linked) → link_at (linked links.now.entries self.old.sent) slot ≡ Some l → l.adj_out ≡ [] }
+        requires unmarked { IsUnmarkedIn conf.now links.now.entries slot self.old }
         ensures rest { self.new ≡ record self.old { waiting = self.new.waiting; alike = self.new.alike } }
-        ensures marked { AreMarked conf.now links.now.entries self.new }
+        ensures marked { AreMarkedIn conf.now links.now.entries self.new }
     {
         self.mark_slot(conf, links, slot);
     }
@@ -213,10 +254,9 @@ impl<A: Allocator + Clone, B: Book<A>> Routing<A, B> {
     /// The peers that are told routes by the policy of this name wait for what they are owed by its rules.
     pub fn mark_exporters(&mut self, conf: &Conf<A>, links: &Links<A>, name: &str)
         requires name { is_policy_name name.now ≡ true }
-        requires there { AreFew links.now.entries }
-        requires marked { AreMarkedFor (λ s. not (exports_by conf.now s (name_of name.now))) conf.now links.now.entries self.old }
+        requires marked { AreMarkedForIn (λ s. not (exports_by conf.now s (name_of name.now))) conf.now links.now.entries self.old }
         ensures rest { self.new ≡ record self.old { waiting = self.new.waiting; alike = self.new.alike } }
-        ensures marked { AreMarked conf.now links.now.entries self.new }
+        ensures marked { AreMarkedIn conf.now links.now.entries self.new }
     {
         for slot in 0..slots_end(links) {
             self.mark_exporter(conf, links, slot, name);
@@ -227,10 +267,9 @@ impl<A: Allocator + Clone, B: Book<A>> Routing<A, B> {
     fn mark_exporter(&mut self, conf: &Conf<A>, links: &Links<A>, slot: u8, name: &str)
         requires name { is_policy_name name.now ≡ true }
         requires slot { slot < 64 }
-        requires there { AreFew links.now.entries }
         ensures rest { self.new ≡ record self.old { waiting = self.new.waiting; alike = self.new.alike } }
-        ensures marked { (done : ℕ → Bool) → (exports_by conf.now slot (name_of name.now) ≡ false → done slot ≡ true) → AreMarkedFor done conf.now links.now.entries self.old
-            → AreMarkedFor (λ s. s == slot || done s) conf.now links.now.entries self.new }
+        ensures marked { (done : ℕ → Bool) → (exports_by conf.now slot (name_of name.now) ≡ false → done slot ≡ true) → AreMarkedForIn done conf.now links.now.entries self.old
+            → AreMarkedForIn (λ s. s == slot || done s) conf.now links.now.entries self.new }
     {
         if conf.exports_by(slot, name) {
             self.mark_slot(conf, links, slot);
@@ -239,11 +278,10 @@ impl<A: Allocator + Clone, B: Book<A>> Routing<A, B> {
 
     /// The slot's peer waits for what it is owed of each prefix with a best route, whatever was marked.
     pub fn mark_slot(&mut self, conf: &Conf<A>, links: &Links<A>, slot: u8)
-        requires slot { slot < 64 }
-        requires there { AreFew links.now.entries }
+        requires { slot < 64 }
         ensures rest { self.new ≡ record self.old { waiting = self.new.waiting; alike = self.new.alike } }
-        ensures marked { (done : ℕ → Bool) → AreMarkedFor done conf.now links.now.entries self.old
-            → AreMarkedFor (λ s. s == slot || done s) conf.now links.now.entries self.new }
+        ensures marked { (done : ℕ → Bool) → AreMarkedForIn done conf.now links.now.entries self.old
+            → AreMarkedForIn (λ s. s == slot || done s) conf.now links.now.entries self.new }
     {
         self.alike.clear(slot);
         let mut octets = Octets::new();
@@ -310,8 +348,8 @@ impl<A: Allocator + Clone, B: Book<A>> Routing<A, B> {
         after: Option<Prefix>,
     ) -> Option<Prefix>
         requires slot { slot < 64 }
-        requires marked { AreMarked conf.now links.now.entries self.now }
-        ensures { IsNextOwed conf.now links.now.entries self.now slot owed after result }
+        requires marked { AreMarkedIn conf.now links.now.entries self.now }
+        ensures { IsNextOwedIn conf.now links.now.entries self.now slot owed after result }
     {
         if self.waiting.is_whole(slot) {
             self.waiting.next(slot, owed, after)
@@ -329,14 +367,24 @@ impl<A: Allocator + Clone, B: Book<A>> Routing<A, B> {
         wanted: Owed,
         after: Option<Prefix>,
     ) -> Option<Prefix>
-        ensures { IsNextOwed conf.now links.now.entries self.now slot wanted after result }
+        requires { slot < 64 }
+        ensures { IsNextOwedIn conf.now links.now.entries self.now slot wanted after result }
     {
-        let link = links.get(&slot)?;
+        let peer = links.get(&slot)?;
+        let adj_out = self.sent.of(slot);
         let mut octets = Octets::new();
         let mut last = after;
-        while let Some(prefix) = self.possible(link, last) {
+        while let Some(prefix) = self.possible(adj_out, last) {
             let chosen = chosen_route(&self.ribs, prefix);
-            let due = owed(conf, chosen.as_ref(), slot, link, prefix, &mut octets);
+            let due = owed(
+                conf,
+                chosen.as_ref(),
+                slot,
+                peer,
+                adj_out,
+                prefix,
+                &mut octets,
+            );
             if is_wanted(due, wanted) {
                 return Some(prefix);
             }
@@ -348,13 +396,10 @@ impl<A: Allocator + Clone, B: Book<A>> Routing<A, B> {
     }
 
     // The least prefix above the given one, or of all, that has a best route or is held.
-    fn possible(&self, link: &Link<A>, after: Option<Prefix>) -> Option<Prefix>
-        ensures { IsNextOf (λ q. IsSome (best_at (rows_of self.now.book) q) ⊎ IsSome (held_at link.now.adj_out q)) after result }
+    fn possible(&self, adj_out: &AdjOut<A>, after: Option<Prefix>) -> Option<Prefix>
+        ensures { IsNextOf (λ q. IsSome (best_at (rows_of self.now.book) q) ⊎ IsSome (held_at adj_out.now q)) after result }
     {
-        lesser(
-            self.ribs.prefix_after(after),
-            link.adj_out.prefix_after(after),
-        )
+        lesser(self.ribs.prefix_after(after), adj_out.prefix_after(after))
     }
 
     /// The least prefix above the given one, or of all, of which something waits for the slot.
@@ -366,8 +411,8 @@ impl<A: Allocator + Clone, B: Book<A>> Routing<A, B> {
         after: Option<Prefix>,
     ) -> Option<Prefix>
         requires slot { slot < 64 }
-        requires marked { AreMarked conf.now links.now.entries self.now }
-        ensures { IsNextMarked conf.now links.now.entries self.now slot after result }
+        requires marked { AreMarkedIn conf.now links.now.entries self.now }
+        ensures { IsNextMarkedIn conf.now links.now.entries self.now slot after result }
     {
         lesser(
             self.next(conf, links, slot, Owed::Withdrawal, after),
@@ -378,8 +423,8 @@ impl<A: Allocator + Clone, B: Book<A>> Routing<A, B> {
     /// Where the slot's queue was lost and nothing is owed to its peer any more, it is whole again.
     pub fn renew_queue(&mut self, conf: &Conf<A>, links: &Links<A>, slot: u8)
         requires slot { slot < 64 }
-        requires marked { AreMarked conf.now links.now.entries self.old }
-        ensures marked { AreMarked conf.now links.now.entries self.new }
+        requires marked { AreMarkedIn conf.now links.now.entries self.old }
+        ensures marked { AreMarkedIn conf.now links.now.entries self.new }
         ensures rest { self.new ≡ record self.old { waiting = self.new.waiting } }
     {
         if self.waiting.is_whole(slot) {
@@ -401,10 +446,10 @@ impl<A: Allocator + Clone, B: Book<A>> Routing<A, B> {
         after: Prefix,
     ) -> Option<Prefix>
         requires slot { slot < 64 }
-        requires marked { AreMarked conf.now links.now.entries self.now }
+        requires marked { AreMarkedIn conf.now links.now.entries self.now }
         ensures above { IfSome result (λ p. IsAbove (Some after) p) }
-        ensures least { IfSome result (λ p. (q : ThePrefix) → IsAbove (Some after) q → IsMarkedSo (mark_at conf.now links.now.entries self.now slot q) octets.now → is_gt (prefix_cmp p q) ≡ false) }
-        ensures none { IfNone result ((q : ThePrefix) → IsAbove (Some after) q → IsMarkedSo (mark_at conf.now links.now.entries self.now slot q) octets.now → ⊥) }
+        ensures least { IfSome result (λ p. (q : ThePrefix) → IsAbove (Some after) q → IsMarkedSo (mark_in conf.now links.now.entries self.now slot q) octets.now → is_gt (prefix_cmp p q) ≡ false) }
+        ensures none { IfNone result ((q : ThePrefix) → IsAbove (Some after) q → IsMarkedSo (mark_in conf.now links.now.entries self.now slot q) octets.now → ⊥) }
     {
         if self.alike.is_whole(slot) {
             self.alike.next(slot, octets, after)
@@ -429,7 +474,7 @@ impl<A: Allocator + Clone, B: Book<A>> Routing<A, B> {
 
     // Where the prefix waits to be announced, it isn't listed any more by what is exported of it.
     fn unlist(&mut self, conf: &Conf<A>, links: &Links<A>, prefix: Prefix)
-        requires { (s : ℕ) (l : Linked) → link_at links.now.entries s ≡ Some l → s < 64 }
+        requires { AreFewIn links.now.entries self.old }
         ensures listed { (s : ℕ) (o : List ℕ) (p : ThePrefix) → is_prefix prefix p ≡ false → IsListed self.old.alike s o p → IsListed self.new.alike s o p }
         ensures rest { self.new ≡ record self.old { alike = self.new.alike } }
     {
@@ -457,12 +502,13 @@ impl<A: Allocator + Clone, B: Book<A>> Routing<A, B> {
 
     // What the prefix's new routes and best one make wait for each peer.
     fn mark_peers(&mut self, conf: &Conf<A>, links: &Links<A>, prefix: Prefix)
-        requires { AreMarkedBut prefix conf.now links.now.entries self.old }
-        ensures marked { AreMarked conf.now links.now.entries self.new }
+        requires { AreMarkedButIn prefix conf.now links.now.entries self.old }
+        ensures marked { AreMarkedIn conf.now links.now.entries self.new }
         ensures rest { self.new ≡ record self.old { waiting = self.new.waiting; alike = self.new.alike } }
     {
         mark_each(
             &self.ribs,
+            &self.sent,
             &mut self.waiting,
             &mut self.alike,
             conf,
@@ -481,7 +527,7 @@ impl<A: Allocator + Clone, B: Book<A>> Routing<A, B> {
         octets: &mut Octets,
     )
         requires { slot < 64 }
-        ensures here { IsMarked (mark_at conf.now links.now.entries self.old slot prefix) self.new slot prefix }
+        ensures here { IsMarked (mark_in conf.now links.now.entries self.old slot prefix) self.new slot prefix }
         ensures others { (s : ℕ) (p : ThePrefix) (w : Option TheOwed) → (s == slot && is_prefix prefix p) ≡ false → IsAwaited self.old.waiting s p w → IsAwaited self.new.waiting s p w }
         ensures listed { (s : ℕ) (o : List ℕ) (p : ThePrefix) → IsListed self.old.alike s o p → IsListed self.new.alike s o p }
         ensures rest { self.new ≡ record self.old { waiting = self.new.waiting; alike = self.new.alike } }
@@ -491,6 +537,7 @@ impl<A: Allocator + Clone, B: Book<A>> Routing<A, B> {
             &mut self.alike,
             conf,
             links,
+            &self.sent,
             slot,
             prefix,
             chosen.as_ref(),
@@ -502,9 +549,9 @@ impl<A: Allocator + Clone, B: Book<A>> Routing<A, B> {
 
 /// The number behind that of the last slot; 0 where there is none.
 pub fn slots_end<A: Allocator + Clone>(links: &Links<A>) -> u8
-    requires { (s : ℕ) (l : Linked) → link_at links.now.entries s ≡ Some l → s < 64 }
-    ensures none { (s : ℕ) → result ≤ s → s < 64 → link_at links.now.entries s ≡ None }
-    ensures last { 0 < result → IsSome (link_at links.now.entries (result - 1)) }
+    requires { (s : ℕ) (l : Slot) → peer_in links.now.entries s ≡ Some l → s < 64 }
+    ensures none { (s : ℕ) → result ≤ s → s < 64 → peer_in links.now.entries s ≡ None }
+    ensures last { 0 < result → IsSome (peer_in links.now.entries (result - 1)) }
     ensures within { result ≤ 64 }
 {
     match links.last_key_value() {
@@ -516,14 +563,15 @@ pub fn slots_end<A: Allocator + Clone>(links: &Links<A>) -> u8
 // What the prefix's routes and its best one make wait for each peer.
 fn mark_each<A: Allocator + Clone, B: Book<A>>(
     ribs: &Ribs<A, B>,
+    sent: &SentTables<A>,
     waiting: &mut Waiting<A>,
     alike: &mut AlikePrefixes<A>,
     conf: &Conf<A>,
     links: &Links<A>,
     prefix: Prefix,
 )
-    requires { AreMarkedBut prefix conf.now links.now.entries (with_waiting ribs.now waiting.old alike.old) }
-    ensures { AreMarked conf.now links.now.entries (with_waiting ribs.now waiting.new alike.new) }
+    requires { AreMarkedButIn prefix conf.now links.now.entries (with_waiting ribs.now sent.now waiting.old alike.old) }
+    ensures { AreMarkedIn conf.now links.now.entries (with_waiting ribs.now sent.now waiting.new alike.new) }
 {
     let mut octets = Octets::new();
     let chosen = chosen_route(ribs, prefix);
@@ -532,6 +580,7 @@ fn mark_each<A: Allocator + Clone, B: Book<A>>(
             alike,
             conf,
             links,
+            sent,
             slot,
             prefix,
             chosen.as_ref(),
@@ -546,6 +595,7 @@ fn list<A: Allocator + Clone>(
     alike: &mut AlikePrefixes<A>,
     conf: &Conf<A>,
     links: &Links<A>,
+    sent: &SentTables<A>,
     slot: u8,
     prefix: Prefix,
     chosen: Option<&Chosen<'_, A>>,
@@ -553,13 +603,13 @@ fn list<A: Allocator + Clone>(
 ) -> Option<Owed>
     requires { slot < 64 }
     ensures owed { (adj_in : RouteTable) (book : BookState) → option_copied chosen.entry ≡ chosen_in (best_at (rows_of book)) adj_in prefix
-        → result ≡ (mark_of conf.now adj_in book slot prefix (peer_at conf.now slot) (link_at links.now.entries slot)).owed }
+        → result ≡ (mark_of conf.now adj_in book slot prefix (peer_at conf.now slot) (link_at (linked links.now.entries sent.now) slot)).owed }
     ensures here { (adj_in : RouteTable) (book : BookState) → option_copied chosen.entry ≡ chosen_in (best_at (rows_of book)) adj_in prefix
-        → result ≡ Some Announcement → IsListed alike.new slot (mark_of conf.now adj_in book slot prefix (peer_at conf.now slot) (link_at links.now.entries slot)).octets prefix }
+        → result ≡ Some Announcement → IsListed alike.new slot (mark_of conf.now adj_in book slot prefix (peer_at conf.now slot) (link_at (linked links.now.entries sent.now) slot)).octets prefix }
     ensures listed { (s : ℕ) (o : List ℕ) (p : ThePrefix) → IsListed alike.old s o p → IsListed alike.new s o p }
 {
-    let link = links.get(&slot)?;
-    let owed = owed(conf, chosen, slot, link, prefix, octets);
+    let peer = links.get(&slot)?;
+    let owed = owed(conf, chosen, slot, peer, sent.of(slot), prefix, octets);
     if owed == Some(Owed::Announcement) {
         alike.list(slot, octets.as_slice(), prefix);
     }
@@ -572,30 +622,31 @@ fn owed<A: Allocator + Clone>(
     conf: &Conf<A>,
     chosen: Option<&Chosen<'_, A>>,
     slot: u8,
-    link: &Link<A>,
+    peer: &Peer<A>,
+    adj_out: &AdjOut<A>,
     prefix: Prefix,
     octets: &mut Octets,
 ) -> Option<Owed>
     ensures owed { (adj_in : RouteTable) (book : BookState) → option_copied chosen.entry ≡ chosen_in (best_at (rows_of book)) adj_in prefix
-        → result ≡ (mark_of conf.now adj_in book slot prefix (peer_at conf.now slot) (Some link.now)).owed }
+        → result ≡ (mark_of conf.now adj_in book slot prefix (peer_at conf.now slot) (Some (record { peer = peer.now; adj_out = adj_out.now }))).owed }
     ensures octets { (adj_in : RouteTable) (book : BookState) → option_copied chosen.entry ≡ chosen_in (best_at (rows_of book)) adj_in prefix
-        → result ≡ Some Announcement → octets.new.items ≡ (mark_of conf.now adj_in book slot prefix (peer_at conf.now slot) (Some link.now)).octets }
+        → result ≡ Some Announcement → octets.new.items ≡ (mark_of conf.now adj_in book slot prefix (peer_at conf.now slot) (Some (record { peer = peer.now; adj_out = adj_out.now }))).octets }
 {
-    let peer = export_peer(conf, slot)?;
-    if link.peer.state() != State::Established {
+    let export_peer = export_peer(conf, slot)?;
+    if peer.state() != State::Established {
         return None;
     }
     let is_exported = match chosen {
-        Some(chosen) => export_chosen(conf, chosen, &peer, prefix, octets),
+        Some(chosen) => export_chosen(conf, chosen, &export_peer, prefix, octets),
         None => false,
     };
     if !is_exported {
-        if link.adj_out.is_held(prefix) {
+        if adj_out.is_held(prefix) {
             return Some(Owed::Withdrawal);
         }
         return None;
     }
-    if link.adj_out.holds(prefix, octets.as_slice()) && !link.adj_out.is_asked(prefix) {
+    if adj_out.holds(prefix, octets.as_slice()) && !adj_out.is_asked(prefix) {
         return None;
     }
     Some(Owed::Announcement)

@@ -10,7 +10,7 @@ ghost use Rattle.routing.specs.Heard.{KeepsUnnamed};
 ghost use Rattle.routing.specs.Updates.{is_among, is_only_withdrawn, word_of};
 ghost use Rattle.routing.specs.Candidates.{judged_at};
 ghost use Rattle.routing.specs.Chosen.{named_in, OncePerPrefix};
-ghost use Rattle.routing.specs.Marks.{AreMarked};
+ghost use Rattle.routing.specs.MarksIn.{AreMarkedIn};
 ghost use Rattle.routing.specs.RoutingState.{RoutingState, StayWhole};
 ghost use Rattle.routing.specs.Tables.{payloads_under};
 ghost use Rattle.routing.specs.Offers.{IsSound, KeepsHeard};
@@ -65,9 +65,10 @@ pub fn take_update<A: Allocator + Clone, B: Book<A>>(
     update: Update<'_, A>,
 ) -> Result<(), AllocError>
     requires sound { IsSound conf.now (offer_at routing.old.book) }
-    requires marked { AreMarked conf.now links.now.entries routing.old }
+    requires marked { AreMarkedIn conf.now links.now.entries routing.old }
     ensures sound { IsSound conf.now (offer_at routing.new.book) }
-    ensures marked { AreMarked conf.now links.now.entries routing.new }
+    ensures marked { AreMarkedIn conf.now links.now.entries routing.new }
+    ensures sent { routing.new.sent ≡ routing.old.sent }
     ensures routes { OnOk result ((s : ℕ) (prefix : ThePrefix) → route_at routing.new.adj_in s prefix ≡ (if s == sender.slot then word_of update.entry prefix (route_at routing.old.adj_in s prefix) else route_at routing.old.adj_in s prefix)) }
     ensures unnamed { OnOk result (KeepsUnnamed sender.slot (Some update.entry) routing.old.book routing.new.book) }
     ensures kept { OnOk result (KeepsHeard conf.now (payloads_under conf.now payloads.now) sender Established routing.old routing.new) }
@@ -113,9 +114,10 @@ fn replace_routes<A: Allocator + Clone, B: Book<A>>(
     attrs: Attrs<A>,
 ) -> Result<(), AllocError>
     requires sound { IsSound conf.now (offer_at routing.old.book) }
-    requires marked { AreMarked conf.now links.now.entries routing.old }
+    requires marked { AreMarkedIn conf.now links.now.entries routing.old }
     ensures sound { IsSound conf.now (offer_at routing.new.book) }
-    ensures marked { AreMarked conf.now links.now.entries routing.new }
+    ensures marked { AreMarkedIn conf.now links.now.entries routing.new }
+    ensures sent { routing.new.sent ≡ routing.old.sent }
     ensures taken { OnOk result (IsTaken conf.now (payloads_under conf.now payloads.now) sender (record { withdrawn = (front_prefixes withdrawn.entry.octets.now).0; attrs = attrs; announced = (front_prefixes announced.entry.octets.now).0 }) routing.old routing.new) }
     ensures refused { OnErr result (StayWhole routing.old.adj_in routing.new.adj_in routing.old.book routing.new.book routing.old.chosen routing.new.chosen) }
     ensures rises { routing.old.chosen ≤ routing.new.chosen }
@@ -140,8 +142,9 @@ fn withdraw_each<A: Allocator + Clone, B: Book<A>>(
     prefixes: Prefixes<'_>,
     announced: Prefixes<'_>,
 )
-    requires { AreMarked conf.now links.now.entries routing.old }
-    ensures marked { AreMarked conf.now links.now.entries routing.new }
+    requires { AreMarkedIn conf.now links.now.entries routing.old }
+    ensures marked { AreMarkedIn conf.now links.now.entries routing.new }
+    ensures sent { routing.new.sent ≡ routing.old.sent }
     ensures routes { (s : ℕ) (prefix : ThePrefix) → route_at routing.new.adj_in s prefix ≡ (if s == slot && is_only_withdrawn (front_prefixes prefixes.entry.octets.now).0 (front_prefixes announced.entry.octets.now).0 prefix then None else route_at routing.old.adj_in s prefix) }
     ensures offers { (s : ℕ) (prefix : ThePrefix) → offer_at routing.new.book s prefix ≡ (if s == slot && is_only_withdrawn (front_prefixes prefixes.entry.octets.now).0 (front_prefixes announced.entry.octets.now).0 prefix then None else offer_at routing.old.book s prefix) }
     ensures chosen { OncePerPrefix (λ p. is_only_withdrawn (front_prefixes prefixes.entry.octets.now).0 (front_prefixes announced.entry.octets.now).0 p ≡ true) routing.old.chosen routing.new.chosen }
@@ -177,8 +180,9 @@ fn bring_all<A: Allocator + Clone, B: Book<A>>(
     prefixes: Prefixes<'_>,
     attrs: &Rc<Attrs<A>, A>,
 ) -> Result<Vec<Announced<A>, A>, AllocError>
-    requires { AreMarked conf.now links.now.entries routing.old }
-    ensures marked { AreMarked conf.now links.now.entries routing.new }
+    requires { AreMarkedIn conf.now links.now.entries routing.old }
+    ensures marked { AreMarkedIn conf.now links.now.entries routing.new }
+    ensures sent { routing.new.sent ≡ routing.old.sent }
     ensures brought { IfOk result (λ named. IsBrought slot attrs.now.value (front_prefixes prefixes.entry.octets.now).0 named.items routing.old routing.new) }
     ensures refused { OnErr result (StayWhole routing.old.adj_in routing.new.adj_in routing.old.book routing.new.book routing.old.chosen routing.new.chosen) }
 {
@@ -201,8 +205,9 @@ fn bring_each<A: Allocator + Clone, B: Book<A>>(
     named: &mut Vec<Announced<A>, A>,
 ) -> Result<(), AllocError>
     requires empty { named.old.items ≡ [] }
-    requires marked { AreMarked conf.now links.now.entries routing.old }
-    ensures marked { AreMarked conf.now links.now.entries routing.new }
+    requires marked { AreMarkedIn conf.now links.now.entries routing.old }
+    ensures marked { AreMarkedIn conf.now links.now.entries routing.new }
+    ensures sent { routing.new.sent ≡ routing.old.sent }
     ensures brought { OnOk result (IsBrought slot attrs.now.value (front_prefixes prefixes.entry.octets.now).0 named.new.items routing.old routing.new) }
     ensures refused { OnErr result (IsPartial slot named.new.items routing.old routing.new) }
 {
@@ -222,8 +227,9 @@ fn bring<A: Allocator + Clone, B: Book<A>>(
     attrs: &Rc<Attrs<A>, A>,
     named: &mut Vec<Announced<A>, A>,
 ) -> Result<(), AllocError>
-    requires marked { AreMarked conf.now links.now.entries routing.old }
-    ensures marked { AreMarked conf.now links.now.entries routing.new }
+    requires marked { AreMarkedIn conf.now links.now.entries routing.old }
+    ensures marked { AreMarkedIn conf.now links.now.entries routing.new }
+    ensures sent { routing.new.sent ≡ routing.old.sent }
     ensures brought { OnOk result ((first : RoutingState) (seen : List ThePrefix) → IsBrought slot attrs.now.value seen named.old.items first routing.old → IsBrought slot attrs.now.value (seen ++ prefix ∷ []) named.new.items first routing.new) }
     ensures refused { OnErr result ((first : RoutingState) (seen : List ThePrefix) → IsBrought slot attrs.now.value seen named.old.items first routing.old → IsPartial slot named.new.items first routing.new) }
 {
@@ -244,8 +250,9 @@ fn take_back<A: Allocator + Clone, B: Book<A>>(
     slot: u8,
     named: &[Announced<A>],
 )
-    requires { AreMarked conf.now links.now.entries routing.old }
-    ensures marked { AreMarked conf.now links.now.entries routing.new }
+    requires { AreMarkedIn conf.now links.now.entries routing.old }
+    ensures marked { AreMarkedIn conf.now links.now.entries routing.new }
+    ensures sent { routing.new.sent ≡ routing.old.sent }
     ensures whole { (first : RoutingState) → IsPartial slot named.now first routing.old → StayWhole first.adj_in routing.new.adj_in first.book routing.new.book first.chosen routing.new.chosen }
 {
     for announced in named {
@@ -269,8 +276,9 @@ fn announce_each<A: Allocator + Clone, B: Book<A>>(
     requires named { IfSome candidate (λ c. c.slot ≡ slot) }
     requires ready { AreReady slot attrs.now routing.old.adj_in named.items }
     requires apart { (prefix : ThePrefix) → AreApart (λ s. if slot == s then judged_at conf.now (payloads_under conf.now payloads.now) attrs.now candidate prefix else offer_at routing.old.book s prefix) }
-    requires marked { AreMarked conf.now links.now.entries routing.old }
-    ensures marked { AreMarked conf.now links.now.entries routing.new }
+    requires marked { AreMarkedIn conf.now links.now.entries routing.old }
+    ensures marked { AreMarkedIn conf.now links.now.entries routing.new }
+    ensures sent { routing.new.sent ≡ routing.old.sent }
     ensures routes { (s : ℕ) (prefix : ThePrefix) → route_at routing.new.adj_in s prefix ≡ (if s == slot && is_among prefix (prefixes_of named.items) then Some attrs.now else route_at routing.old.adj_in s prefix) }
     ensures offers { (s : ℕ) (prefix : ThePrefix) → offer_at routing.new.book s prefix ≡ (if s == slot && is_among prefix (prefixes_of named.items) then judged_at conf.now (payloads_under conf.now payloads.now) attrs.now candidate prefix else offer_at routing.old.book s prefix) }
     ensures chosen { OncePerPrefix (λ p. is_among p (prefixes_of named.items) ≡ true) routing.old.chosen routing.new.chosen }
@@ -297,8 +305,9 @@ fn announce<A: Allocator + Clone, B: Book<A>>(
     requires named { IfSome candidate (λ c. c.slot ≡ slot) }
     requires ready { IsReady slot attrs.now routing.old.adj_in announced }
     requires apart { AreApart (λ s. if slot == s then judged_at conf.now (payloads_under conf.now payloads.now) attrs.now candidate announced.prefix else offer_at routing.old.book s announced.prefix) }
-    requires marked { AreMarked conf.now links.now.entries routing.old }
-    ensures marked { AreMarked conf.now links.now.entries routing.new }
+    requires marked { AreMarkedIn conf.now links.now.entries routing.old }
+    ensures marked { AreMarkedIn conf.now links.now.entries routing.new }
+    ensures sent { routing.new.sent ≡ routing.old.sent }
     ensures routes { (s : ℕ) (p : ThePrefix) → route_at routing.new.adj_in s p ≡ (if is_route slot announced.prefix s p then Some attrs.now else route_at routing.old.adj_in s p) }
     ensures offers { (s : ℕ) (p : ThePrefix) → offer_at routing.new.book s p ≡ (if is_route slot announced.prefix s p then judged_at conf.now (payloads_under conf.now payloads.now) attrs.now candidate announced.prefix else offer_at routing.old.book s p) }
     ensures chosen { routing.new.chosen ≤ routing.old.chosen + 1 }

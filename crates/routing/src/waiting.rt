@@ -1,6 +1,6 @@
 //! The prefixes that wait: a peer doesn't hold of them just what is exported to it, or has asked for them again.
-ghost use Rattle.std.specs.Prelude.{◌≡◌, ◌||◌, not, [], unwrap_or};
-ghost use Rattle.std.specs.Option.{option_map};
+ghost use Rattle.std.specs.Prelude.{◌≡◌, ◌<◌, ◌||◌, not, [], unwrap_or};
+ghost use Rattle.std.specs.Option.{IsSome, option_map};
 ghost use Rattle.std.specs.Iterator.{YieldsFirst, item_count};
 ghost use Rattle.std.specs.List.Sorted.{IsStrictlySortedBy};
 ghost use Rattle.std.specs.Map.{keys_of};
@@ -8,13 +8,15 @@ ghost use Rattle.decision.specs.BookContents.{rows_of};
 ghost use Rattle.net_prefix.specs.PrefixOrder.{prefix_cmp};
 ghost use Rattle.rib_out.specs.Held.{asked_at, held_at};
 ghost use Rattle.routing.specs.Export.{export_in};
+ghost use Rattle.routing.specs.Sent.{linked_as};
 ghost use Rattle.routing.specs.Tables.{best_at};
 ghost use Rattle.routing.specs.Waiting.{differing, first_of, is_same, known_prefixes, waiting_at};
 
 use crate::exports::{Octets, export};
-use crate::link::Link;
 use crate::routing::Routing;
 use bgp_conf::Conf;
+use bgp_fsm::State;
+use bgp_peer::Peer;
 use decision::{Book, PlainBook};
 use export_rules::ExportPeer;
 use loc_rib::{Ribs, Rows};
@@ -45,14 +47,16 @@ impl<'a, A: Allocator + Clone, B: Book<A>> WaitingPrefixes<'a, A, B> {
     pub fn new(
         conf: &'a Conf<A>,
         routing: &'a Routing<A, B>,
-        peer: Option<ExportPeer>,
-        link: Option<&'a Link<A>>,
+        export_peer: Option<ExportPeer>,
+        slot: u8,
+        peer: Option<&Peer<A>>,
     ) -> Self
-        ensures all { result ≡ waiting_at conf.now (rows_of routing.now.book) routing.now.adj_in peer (option_map (λ l. l.now) link.entry) }
+        requires { IsSome peer → slot < 64 }
+        ensures all { result ≡ waiting_at conf.now (rows_of routing.now.book) routing.now.adj_in export_peer (option_map (λ p. linked_as routing.now.sent slot p.now) peer.entry) }
         ensures rising { IsStrictlySortedBy prefix_cmp result }
     {
         WaitingPrefixes {
-            waiting: walk(conf, &routing.ribs, peer, link),
+            waiting: walk(conf, routing, export_peer, slot, peer),
         }
     }
 }
@@ -60,19 +64,21 @@ impl<'a, A: Allocator + Clone, B: Book<A>> WaitingPrefixes<'a, A, B> {
 // The walk over the known prefixes, where there is an Established peer.
 fn walk<'a, A: Allocator + Clone, B: Book<A>>(
     conf: &'a Conf<A>,
-    ribs: &'a Ribs<A, B>,
-    peer: Option<ExportPeer>,
-    link: Option<&'a Link<A>>,
+    routing: &'a Routing<A, B>,
+    export_peer: Option<ExportPeer>,
+    slot: u8,
+    peer: Option<&Peer<A>>,
 ) -> Option<Waiting<'a, A, B>>
-    ensures all { unwrap_or result [] ≡ waiting_at conf.now (rows_of ribs.now.book) ribs.now.adj_in peer (option_map (λ l. l.now) link.entry) }
+    requires { IsSome peer → slot < 64 }
+    ensures all { unwrap_or result [] ≡ waiting_at conf.now (rows_of routing.now.book) routing.now.adj_in export_peer (option_map (λ p. linked_as routing.now.sent slot p.now) peer.entry) }
     ensures rising { IsStrictlySortedBy prefix_cmp (unwrap_or result []) }
 {
+    let export_peer = export_peer?;
     let peer = peer?;
-    let link = link?;
-    if !link.is_established() {
+    if peer.state() != State::Established {
         return None;
     }
-    Some(Waiting::new(conf, ribs, link, peer))
+    Some(Waiting::new(conf, &routing.ribs, routing.held(slot), export_peer))
 }
 
 impl<A: Allocator + Clone, B: Book<A>> Iterator for WaitingPrefixes<'_, A, B> {
@@ -115,16 +121,21 @@ impl<'a, A: Allocator + Clone, B: Book<A>> Model for Waiting<'a, A, B> {
 
 impl<'a, A: Allocator + Clone, B: Book<A>> Waiting<'a, A, B> {
     // The prefixes that wait for the peer of this slot.
-    fn new(conf: &'a Conf<A>, ribs: &'a Ribs<A, B>, link: &'a Link<A>, peer: ExportPeer) -> Self
-        ensures waiting { result ≡ differing link.now.adj_out (export_in conf.now (best_at (rows_of ribs.now.book)) ribs.now.adj_in peer) (known_prefixes (rows_of ribs.now.book) link.now.adj_out) }
+    fn new(
+        conf: &'a Conf<A>,
+        ribs: &'a Ribs<A, B>,
+        adj_out: &'a AdjOut<A>,
+        peer: ExportPeer,
+    ) -> Self
+        ensures waiting { result ≡ differing adj_out.now (export_in conf.now (best_at (rows_of ribs.now.book)) ribs.now.adj_in peer) (known_prefixes (rows_of ribs.now.book) adj_out.now) }
         ensures rising { IsStrictlySortedBy prefix_cmp result }
     {
         Waiting {
             conf,
             ribs,
-            adj_out: &link.adj_out,
+            adj_out,
             peer,
-            known: KnownPrefixes::new(ribs, &link.adj_out),
+            known: KnownPrefixes::new(ribs, adj_out),
         }
     }
 }

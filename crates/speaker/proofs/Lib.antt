@@ -22,3 +22,4 @@ pub mod RoutesSeen
 pub mod ViewsBehind
 pub mod PayloadRows
 pub mod AskedRoutes
+pub mod PeersSeen

@@ -19,8 +19,8 @@ ghost use Rattle.routing.specs.Told.{HasRoom};
 ghost use Rattle.routing.specs.Tables.{link_at};
 
 use crate::step::Speaker;
-use bgp_fsm::Input;
-use bgp_peer::ROOM_FOR_UPDATE;
+use bgp_fsm::{Input, State};
+use bgp_peer::{Peer, ROOM_FOR_UPDATE};
 use decision::Book;
 use export_rules::ExportPeer;
 use net_prefix::Prefix;
@@ -189,8 +189,8 @@ impl<A: Allocator + Clone, B: Book<A>> Speaker<A, B> {
         ensures up { OnTrue result (IsUpAt self.now slot) }
         ensures down { result ≡ false → (l : Linked) → link_at self.now.links slot ≡ Some l → l.peer.session.state ≢ Established }
     {
-        match self.routes.link(slot) {
-            Some(found) => found.is_established(),
+        match self.routes.peer(slot) {
+            Some(found) => is_established(found),
             None => false,
         }
     }
@@ -198,8 +198,8 @@ impl<A: Allocator + Clone, B: Book<A>> Speaker<A, B> {
     fn has_room(&self, slot: u8) -> bool
         ensures { (l : Linked) → link_at self.now.links slot ≡ Some l → IsTrue result ↔ HasRoom l }
     {
-        match self.routes.link(slot) {
-            Some(found) => found.peer.free() >= ROOM_FOR_UPDATE,
+        match self.routes.peer(slot) {
+            Some(found) => found.free() >= ROOM_FOR_UPDATE,
             None => false,
         }
     }
@@ -260,4 +260,11 @@ impl<A: Allocator + Clone, B: Book<A>> Speaker<A, B> {
         self.routes
             .tell_announcements(slot, peer, least, octets, draft)
     }
+}
+
+// Whether the peer's session is Established.
+fn is_established<A: Allocator + Clone>(peer: &Peer<A>) -> bool
+    ensures { IsTrue result ↔ (peer.now.session.state ≡ Established) }
+{
+    peer.state() == State::Established
 }

@@ -361,8 +361,8 @@ impl<A: Allocator + Clone, B: Book<A>> Speaker<A, B> {
     fn transport_at(&self, slot: u8) -> Option<Transport>
         ensures { result ≡ option_map transport_of (session_at self.now.links slot) }
     {
-        match self.routes.link(slot) {
-            Some(found) => Some(found.peer.transport()),
+        match self.routes.peer(slot) {
+            Some(found) => Some(found.transport()),
             None => None,
         }
     }

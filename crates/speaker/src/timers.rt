@@ -60,10 +60,10 @@ impl<A: Allocator + Clone, B: Book<A>> Speaker<A, B> {
         ensures counted { self.new.chosen_before ≡ self.old.chosen_before }
         ensures rises { self.old.chosen ≤ self.new.chosen }
     {
-        let Some(found) = self.routes.link(slot) else {
+        let Some(found) = self.routes.peer(slot) else {
             return false;
         };
-        if !found.peer.has_ended(timer, self.moment) {
+        if !found.has_ended(timer, self.moment) {
             return false;
         }
         self.input(slot, Input::Expires(timer))

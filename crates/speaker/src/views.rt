@@ -168,8 +168,8 @@ impl<A: Allocator + Clone, B: Book<A>> Speaker<A, B> {
     fn state_at(&self, slot: u8) -> Option<State>
         ensures { result ≡ option_map (λ s. s.state) (session_at self.now.links slot) }
     {
-        match self.routes.link(slot) {
-            Some(found) => Some(found.peer.state()),
+        match self.routes.peer(slot) {
+            Some(found) => Some(found.state()),
             None => None,
         }
     }
@@ -185,8 +185,8 @@ impl<A: Allocator + Clone, B: Book<A>> Speaker<A, B> {
     fn transport_to(&self, slot: u8) -> Transport
         ensures { result ≡ transport_at (session_at self.now.links slot) }
     {
-        match self.routes.link(slot) {
-            Some(found) => found.peer.transport(),
+        match self.routes.peer(slot) {
+            Some(found) => found.transport(),
             None => Transport::None,
         }
     }
@@ -298,9 +298,9 @@ impl<A: Allocator + Clone, B: Book<A>> Speaker<A, B> {
         ensures all { result ≡ held_by (link_at self.now.links slot) }
         ensures rising { IsStrictlySortedBy prefix_cmp (keys_of result) }
     {
-        match self.routes.link(slot) {
+        match self.routes.adj_out(slot) {
             Some(found) => HeldRoutes {
-                held: Some(found.adj_out.held()),
+                held: Some(found.held()),
             },
             None => HeldRoutes { held: None },
         }

@@ -54,9 +54,9 @@ impl<A: Allocator + Clone, B: Book<A>> Speaker<A, B> {
         ensures rising { IsStrictlySortedBy prefix_cmp (keys_of result) }
         ensures kept { result ≡ all_after after (held_by (link_at self.now.links slot)) }
     {
-        match self.routes.link(slot) {
+        match self.routes.adj_out(slot) {
             Some(found) => HeldRoutes {
-                held: Some(found.adj_out.held_after(after)),
+                held: Some(found.held_after(after)),
             },
             None => HeldRoutes { held: None },
         }

@@ -1,6 +1,5 @@
-use Rattle.std.proofs.Common.{◌≡◌, ◌≢◌, ◌==◌, ℕ, Bool, List, Option, Some, None, cond, false, refl, sym, ap, ◌∙◌, subst, inl, inr}
+use Rattle.std.proofs.Common.{◌≡◌, ◌≢◌, ℕ, Bool, List, [], Option, Some, None, false, refl, sym, ap, subst, inl, inr}
 use Rattle.std.proofs.lemmas.Bool.{cases_eq}
-use Rattle.std.specs.Option.{IsSome}
 use Rattle.bgp_conf.specs.Configuration.{Configuration, peer_at}
 use Rattle.bgp_conf.specs.declared.conf.ConfiguredPeer.{ConfiguredPeer}
 use Rattle.bgp_fsm.specs.StateTests.{is_established}
@@ -12,8 +11,10 @@ use Rattle.rib_out.specs.declared.marks.Owed.{Owed}
 use Rattle.routing.specs.Linked.{Linked}
 use Rattle.routing.specs.Marks.{AreMarked, IsFollowed, IsMarked, IsUnmarked, Mark, mark_at, mark_of, no_mark}
 use Rattle.routing.specs.RoutingState.{RoutingState}
+use Rattle.routing.specs.Sent.{linked}
 use Rattle.routing.specs.Tables.{link_at}
 use Rattle.routing.proofs.Counting.{ends_all}
+use Rattle.routing.proofs.LinkedPeers.{marked_in, sent_kept}
 use Rattle.routing.proofs.Marking.{KeepsTables, all_marked, is_other, marked_none, marked_still, this_or_other}
 use Rattle.routes.proofs.SlotMarks.{marked_asked}
 use Rattle.routes.proofs.sessions.follow.Goals as goal
@@ -63,20 +64,30 @@ returns-then-effects-clause-chosen g c = λ left. ends_all c.args.slot c.args.ro
 
 pub returns-then-asks-clause-marked : goal.returns-then-asks-clause-marked
 returns-then-asks-clause-marked g c =
-    let before = marked_asked c.args.conf.now c.args.links.now.entries c.args.slot c.args.effects.now c.args.asks c.args.routing.now c.requires c.if-effects.false c.if-effects-2.false in
+    let before = marked_asked c.args.conf.now (linked c.args.links.now.entries c.args.routing.now.sent) c.args.slot c.args.effects.now c.args.asks c.args.routing.now c.requires c.if-effects.false c.if-effects-2.false in
     all_marked _ _ _ _ (λ s few. inl (this_or_other c.args.slot s)) (c.mark_slot.ensures.marked (is_other c.args.slot) before)
 
 pub returns-else-asks-clause-marked : goal.returns-else-asks-clause-marked
 returns-else-asks-clause-marked g c =
-    same_marks c.args.conf.now c.args.links.now.entries c.args.slot c.args.effects.now c.args.asks c.args.routing.now c.requires c.if-effects.false c.if-effects-2.false c.if-asks.false
+    same_marks c.args.conf.now (linked c.args.links.now.entries c.args.routing.now.sent) c.args.slot c.args.effects.now c.args.asks c.args.routing.now c.requires c.if-effects.false c.if-effects-2.false c.if-asks.false
 
 pub drop_slot-requires : goal.drop_slot-requires
 drop_slot-requires g c =
     let cleared = c.clear.ensures in
-    marked_ended c.args.conf.now c.args.links.now.entries c.args.slot c.clear.new.self (c.requires.left c.if-effects.true)
-    (unmarked c.args.conf.now c.args.links.now.entries c.args.slot c.args.effects.now c.args.asks c.args.routing.now c.clear.new.self c.requires cleared.rest cleared.none cleared.others cleared.listed)
+    let links = linked c.args.links.now.entries c.args.routing.now.sent in
+    marked_in c.args.conf.now c.args.links.now.entries c.clear.new.self c.args.routing.now.sent (sent_kept c.args.routing.now c.clear.new.self cleared.rest)
+    (marked_ended c.args.conf.now links c.args.slot c.clear.new.self (c.requires.left c.if-effects.true)
+    (unmarked c.args.conf.now links c.args.slot c.args.effects.now c.args.asks c.args.routing.now c.clear.new.self c.requires cleared.rest cleared.none cleared.others cleared.listed))
 
 pub enter-requires-clause-unmarked : goal.enter-requires-clause-unmarked
 enter-requires-clause-unmarked g c =
     let cleared = c.clear-then-effects-2.ensures in
-    unmarked c.args.conf.now c.args.links.now.entries c.args.slot c.args.effects.now c.args.asks c.args.routing.now c.clear-then-effects-2.new.self c.requires cleared.rest cleared.none cleared.others cleared.listed
+    let u = c.clear-then-effects-2.new.self in
+    subst (λ sent. IsUnmarked c.args.conf.now (linked c.args.links.now.entries sent) c.args.slot u) (sym (sent_kept c.args.routing.now u cleared.rest))
+    (unmarked c.args.conf.now (linked c.args.links.now.entries c.args.routing.now.sent) c.args.slot c.args.effects.now c.args.asks c.args.routing.now u c.requires cleared.rest cleared.none cleared.others cleared.listed)
+
+pub enter-requires-clause-fresh : goal.enter-requires-clause-fresh
+enter-requires-clause-fresh g c =
+    let u = c.clear-then-effects-2.new.self in
+    subst (λ sent. (l : Linked) → link_at (linked c.args.links.now.entries sent) c.args.slot ≡ Some l → l.adj_out ≡ []) (sym (sent_kept c.args.routing.now u c.clear-then-effects-2.ensures.rest))
+    (c.requires.entered c.if-effects-2.true)

@@ -6,7 +6,7 @@ use Rattle.routing.proofs.Counting.{counts_more, counts_none}
 use Rattle.routing.proofs.candidates.choose_again.Goals as goal
 
 pub loop-prefix-init : goal.loop-prefix-init
-loop-prefix-init g c = (RemadeUpTo-none _ _ _, refl, c.requires.sound, c.requires.marked, counts_none _ _)
+loop-prefix-init g c = (RemadeUpTo-none _ _ _, refl, c.requires.sound, c.requires.marked, counts_none _ _, refl)
 
 pub loop-prefix-preserved : goal.loop-prefix-preserved
 loop-prefix-preserved g c =
@@ -14,13 +14,14 @@ loop-prefix-preserved g c =
     let below = rw c.place-place.ensures.place at c.place-place.ensures.below in
     let walked : c.routing.inside.ribs.adj_in ≡ c.args.routing.now.adj_in = ap (λ (t : RoutingState). t.adj_in) c.routing.view_is ∙ h.1 in
     let least = rw walked at c.in-Some.ensures.least in
-    let made = rw h.1 at c.choose_at.ensures.made in
+    let made = rw (h.1, h.5) at c.choose_at.ensures.made in
     let has : HasRoute c.args.routing.now.adj_in c.in-Some.prefix = subst (λ t. HasRoute t c.in-Some.prefix) walked c.in-Some.ensures.has in (
       RemadeUpTo-more _ _ _ _ _ _ _ h.0 refl (λ s r held. least s r) below made,
       c.choose_at.ensures.routes ∙ h.1,
       c.choose_at.ensures.sound,
       c.choose_at.ensures.marked,
       counts_more _ c.loop-prefix.after c.in-Some.prefix _ _ _ h.4 c.in-Some.ensures.above has c.choose_at.ensures.chosen c.choose_at.ensures.rises,
+      c.choose_at.ensures.sent ∙ h.5,
     )
 
 pub returns-clause-chosen : goal.returns-clause-chosen

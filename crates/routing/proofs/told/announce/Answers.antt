@@ -6,7 +6,7 @@ err_so (Ok t) x = tt
 err_so (Err f) x = x
 
 pub returns-in_err-hold-clause-others : goal.returns-in_err-hold-clause-others
-returns-in_err-hold-clause-others g c = err_so c.from_residual.result (rw (← c.link.view_is) c.in_err-hold.ensures.others)
+returns-in_err-hold-clause-others g c = err_so c.from_residual.result (rw (← c.routing.view_is) c.in_err-hold.ensures.others)
 
 pub hold-requires-clause-news : goal.hold-requires-clause-news
-hold-requires-clause-news g c = rw (← c.link.view_is) at c.requires.news
+hold-requires-clause-news g c = rw (← c.routing.view_is) at c.requires.news

@@ -28,6 +28,7 @@ loop-announced-init g c =
       named_none _ _,
       omega arith,
       c.into_iter-announced-iterator.ensures.into_iter_gives.1 ∙ c.args.named.ok.0 ∙ ap length (sym items),
+      refl,
     )
 
 pub announce-requires-clause-ready : goal.announce-requires-clause-ready
@@ -66,6 +67,7 @@ loop-announced-preserved g c =
       subst (λ ps. CountsNamed (λ p. true) ps c.args.routing.now.chosen c.announce.new.routing.chosen) (sym seen) (named_more _ _ _ _ _ _ h.4 refl c.announce.ensures.chosen again),
       omega (arith, before, later),
       omega (arith, count, gone, short),
+      c.announce.ensures.sent ∙ h.7,
     )
 
 pub returns-clause-routes : goal.returns-clause-routes

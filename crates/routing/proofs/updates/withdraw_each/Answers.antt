@@ -8,7 +8,7 @@ use Rattle.routing.proofs.updates.withdraw_each.Goals as goal
 pub loop-prefix-init : goal.loop-prefix-init
 loop-prefix-init g c =
     let all = ap (λ p. (front_prefixes p.octets.now).0) c.into_iter-prefix-iterator.ensures.into_iter_gives in
-    (Sets-start _ _ _ _ _ _ all, Sets-start _ _ _ _ _ _ all, c.requires, named_none _ _, omega arith)
+    (Sets-start _ _ _ _ _ _ all, Sets-start _ _ _ _ _ _ all, c.requires, named_none _ _, omega arith, refl)
 
 pub loop-prefix-preserved-then-not-is_named : goal.loop-prefix-preserved-then-not-is_named
 loop-prefix-preserved-then-not-is_named g c =
@@ -22,6 +22,7 @@ loop-prefix-preserved-then-not-is_named g c =
       c.withdraw.ensures.marked,
       named_more _ _ _ _ _ _ h.3 takes c.withdraw.ensures.chosen again,
       omega (arith, before, later),
+      c.withdraw.ensures.sent ∙ h.5,
     )
 
 pub loop-prefix-preserved : goal.loop-prefix-preserved
@@ -33,6 +34,7 @@ loop-prefix-preserved g c =
       h.2,
       named_still _ _ c.in-Some.prefix _ _ _ h.3 refl,
       h.4,
+      h.5,
     )
 
 pub returns-clause-routes : goal.returns-clause-routes

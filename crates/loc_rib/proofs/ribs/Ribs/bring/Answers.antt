@@ -29,6 +29,11 @@ pub returns-clause-err : goal.returns-clause-err
 returns-clause-err g c =
     rw (← c.self.view_is) (through_err c.bring_in.result _ _ c.bring_in.ensures.err (λ same s p. ap (λ es. route_at (adj_in_of es) s p) same))
 
+pub returns-clause-lacked : goal.returns-clause-lacked
+returns-clause-lacked g c =
+    rw (← c.self.view_is)
+    (through_err c.bring_in.result _ _ c.bring_in.ensures.lacked (λ none. route_is c.self.inside.rows.entries c.args.slot c.args.prefix ∙ none))
+
 pub returns-clause-offers : goal.returns-clause-offers
 returns-clause-offers g c =
     rw (← c.self.view_is) (offers_stay c.self.inside.rows.entries c.bring_in.new.rows.entries c.args.prefix c.bring_in.ensures.others c.bring_in.ensures.offers)

@@ -1,10 +1,11 @@
-use Rattle.std.proofs.Common.{◌≡◌, Result, Ok, Err, OnOk, OnErr, Some, false, refl, sym, subst}
+use Rattle.std.proofs.Common.{◌≡◌, Result, Ok, Err, OnOk, OnErr, Some, false, ap, refl, sym, subst}
 use Rattle.bgp_attr.specs.PathAttributes.{originated}
 use Rattle.decision.specs.BookContents.{offer_at}
 use Rattle.decision.specs.declared.candidate.Candidate.{Candidate}
 use Rattle.routing.specs.Candidates.{network_at}
 use Rattle.routing.specs.Offers.{IsOwn}
-use Rattle.routing.specs.Tables.{payloads_under}
+use Rattle.routing.specs.Sent.{linked}
+use Rattle.routing.specs.Tables.{link_at, payloads_under}
 use Rattle.routing.proofs.SoundOffers.{apart_with, network_own, sound_come, sound_gone}
 use Rattle.routes.proofs.routes.Routes.announce_network.Goals as goal
 
@@ -40,7 +41,7 @@ pub returns-clause-err : goal.returns-clause-err
 returns-clause-err g c = rw (← c.self.view_is) (both_err c.announce.result _ _ _ (λ stay chosen. record {
   conf = refl;
   payloads = refl;
-  links = λ s. refl;
+  links = λ s. ap (λ sent. link_at (linked c.self.inside.links.entries sent) s) c.announce.ensures.sent;
   routes = stay.0;
   offers = stay.1;
   rows = stay.2;
@@ -56,7 +57,7 @@ returns-clause-ok g c =
     rw (← c.self.view_is) (both_ok c.announce.result _ _ _ (λ routes offers. record {
       routes = routes;
       offers = offers;
-      links = refl;
+      links = ap (linked c.self.inside.links.entries) c.announce.ensures.sent;
       payloads = refl;
       chosen = (c.announce.ensures.rises, c.announce.ensures.chosen);
     }) routes offers)

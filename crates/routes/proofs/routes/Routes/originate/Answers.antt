@@ -10,6 +10,7 @@ use Rattle.routes.proofs.AddedMarks.{marked_reached}
 use Rattle.routing.proofs.SoundOffers.{sound_conf}
 use Rattle.routes.proofs.LocalNetworks.{network_refused}
 use Rattle.routing.proofs.Results.{OnErr-got, OnOk-sure, told_false}
+use Rattle.routing.specs.Sent.{linked}
 use Rattle.routes.proofs.routes.Routes.originate.Goals as goal
 
 -- a configuration with another set of local networks alone
@@ -21,15 +22,15 @@ beside conf conf2 networks links t is was = (
 )
 
 pub invariant_of-self-then-is_there : goal.invariant_of-self-then-is_there
-invariant_of-self-then-is_there g c = beside c.self.inside.conf c.apply.new.self _ c.self.inside.links.entries c.self.inside.routing (rw c.requires.originates at c.in_ok-apply.ensures.ok) c.self.invariant
+invariant_of-self-then-is_there g c = beside c.self.inside.conf c.apply.new.self _ (linked c.self.inside.links.entries c.self.inside.routing.sent) c.self.inside.routing (rw c.requires.originates at c.in_ok-apply.ensures.ok) c.self.invariant
 
 pub invariant_of-self-2 : goal.invariant_of-self-2
-invariant_of-self-2 g c = beside c.self.inside.conf c.apply.new.self _ c.self.inside.links.entries c.self.inside.routing (rw c.requires.originates at c.in_ok-apply.ensures.ok) c.self.invariant
+invariant_of-self-2 g c = beside c.self.inside.conf c.apply.new.self _ (linked c.self.inside.links.entries c.self.inside.routing.sent) c.self.inside.routing (rw c.requires.originates at c.in_ok-apply.ensures.ok) c.self.invariant
 
 pub invariant_of-self-then-is_err : goal.invariant_of-self-then-is_err
 invariant_of-self-then-is_err g c =
     let back = OnOk-sure c.apply-takes_no_memory.result _ _ c.apply-takes_no_memory.ensures.ok c.apply-takes_no_memory.ensures.memory (λ x. x) in
-    beside c.self-2.inside.conf c.apply-takes_no_memory.new.self _ c.self-2.inside.links.entries c.self-2.inside.routing back c.self-2.invariant
+    beside c.self-2.inside.conf c.apply-takes_no_memory.new.self _ (linked c.self-2.inside.links.entries c.self-2.inside.routing.sent) c.self-2.inside.routing back c.self-2.invariant
 
 pub returns-then-is_err-clause-err : goal.returns-then-is_err-clause-err
 returns-then-is_err-clause-err g c =

@@ -5,12 +5,13 @@ use Rattle.rib_in.specs.LatestRoutes.{is_route}
 use Rattle.routes.proofs.AddedMarks.{marked_reached}
 use Rattle.routing.proofs.Results.{OnOk-sure}
 use Rattle.routing.proofs.SoundOffers.{sound_conf, sound_gone}
+use Rattle.routing.specs.Sent.{linked}
 use Rattle.routes.proofs.routes.Routes.retract.Goals as goal
 
 pub withdraw-requires : goal.withdraw-requires
 withdraw-requires g c =
     let conf = OnOk-sure c.apply-takes_no_memory.result _ _ (rw c.requires.retracts at c.apply-takes_no_memory.ensures.ok) (rw c.requires.retracts at c.apply-takes_no_memory.ensures.memory) (λ x. x) in
-    marked_reached c.self.inside.conf c.apply-takes_no_memory.new.self c.self.inside.links.entries c.self.inside.routing c.self.invariant.1 (ap (λ (x : Configuration). x.own) conf) (ap (λ (x : Configuration). x.policies) conf)
+    marked_reached c.self.inside.conf c.apply-takes_no_memory.new.self (linked c.self.inside.links.entries c.self.inside.routing.sent) c.self.inside.routing c.self.invariant.1 (ap (λ (x : Configuration). x.own) conf) (ap (λ (x : Configuration). x.policies) conf)
     (λ s. ap (λ x. peer_at x s) conf)
 
 pub invariant_of-self : goal.invariant_of-self

@@ -7,10 +7,11 @@ use Rattle.routing.proofs.Marking.{all_marked, is_other, this_or_other}
 use Rattle.routes.proofs.PutSlots.{slot_used}
 use Rattle.routing.proofs.Results.{OnOk-sure}
 use Rattle.routing.proofs.SoundOffers.{sound_exporting}
+use Rattle.routing.specs.Sent.{linked}
 use Rattle.routes.proofs.routes.Routes.use_out.Goals as goal
 
-pub mark_slot-requires-clause-slot : goal.mark_slot-requires-clause-slot
-mark_slot-requires-clause-slot g c =
+pub mark_slot-requires : goal.mark_slot-requires
+mark_slot-requires g c =
     let name = c.requires.uses.0 in
     let is = c.requires.uses.1 in
     let may = rw (← c.self.view_is, is) at c.requires.accepted in
@@ -21,7 +22,7 @@ invariant_of-self g c =
     let name = c.requires.uses.0 in
     let is = c.requires.uses.1 in
     let conf = OnOk-sure c.apply-takes_no_memory.result _ _ (rw is at c.apply-takes_no_memory.ensures.ok) (rw is at c.apply-takes_no_memory.ensures.memory) (λ x. x) in
-    let marked = marked_exporting c.self.inside.conf c.apply-takes_no_memory.new.self c.self.inside.links.entries c.self.inside.routing c.args.slot name conf c.self.invariant.1 in
+    let marked = marked_exporting c.self.inside.conf c.apply-takes_no_memory.new.self (linked c.self.inside.links.entries c.self.inside.routing.sent) c.self.inside.routing c.args.slot name conf c.self.invariant.1 in
     let sound = sound_exporting c.self.inside.conf c.apply-takes_no_memory.new.self c.args.slot name (offer_at c.self.inside.routing.book) conf c.self.invariant.0 in
     let offers : offer_at c.mark_slot.new.self.book ≡ offer_at c.self.inside.routing.book = ap (λ (t : RoutingState). offer_at t.book) c.mark_slot.ensures.rest in (
       subst (λ f. IsSound c.apply-takes_no_memory.new.self f) (sym offers) sound,

@@ -1,8 +1,9 @@
 use Rattle.std.proofs.Common.{◌≡◌, ◌==◌, ℕ, Some, cond, refl, sym, subst, ◌∙◌}
 use Rattle.decision.specs.BookContents.{AreApart, offer_at, rows_of}
 use Rattle.net_prefix.specs.declared.prefix.Prefix.{Prefix}
-use Rattle.routing.specs.Marks.{AreMarkedBut}
+use Rattle.routing.specs.MarksIn.{AreMarkedButIn}
 use Rattle.routing.specs.RoutingState.{RoutingState}
+use Rattle.routing.specs.Sent.{linked}
 use Rattle.routing.proofs.Marking.{but_changed, but_marked, but_unlisted, routes_either}
 use Rattle.routing.proofs.routing.Routing.announce.Goals as goal
 
@@ -13,12 +14,13 @@ announce-announced-requires-clause-apart g c =
 pub mark_peers-requires : goal.mark_peers-requires
 mark_peers-requires g c =
     let conf = c.args.conf.now in
-    let links = c.args.links.now.entries in
+    let peers = c.args.links.now.entries in
+    let links = linked peers c.args.self.now.sent in
     let inside = c.self.inside in
-    let old : RoutingState = record { adj_in = inside.ribs.adj_in; book = inside.ribs.book; chosen = inside.ribs.chosen; waiting = inside.waiting; alike = inside.alike } in
-    let new : RoutingState = record { adj_in = c.announce-announced.new.self.adj_in; book = c.announce-announced.new.self.book; chosen = c.announce-announced.new.self.chosen; waiting = inside.waiting; alike = inside.alike } in
+    let old : RoutingState = record { adj_in = inside.ribs.adj_in; book = inside.ribs.book; chosen = inside.ribs.chosen; sent = inside.sent; waiting = inside.waiting; alike = inside.alike } in
+    let new : RoutingState = record { adj_in = c.announce-announced.new.self.adj_in; book = c.announce-announced.new.self.book; chosen = c.announce-announced.new.self.chosen; sent = inside.sent; waiting = inside.waiting; alike = inside.alike } in
     let but =
-    subst (λ (t : RoutingState). AreMarkedBut c.args.prefix conf links t) (sym (c.self.view_is ∙ c.unlist.ensures.rest))
+    subst (λ (t : RoutingState). AreMarkedButIn c.args.prefix conf peers t) (sym (c.self.view_is ∙ c.unlist.ensures.rest))
     (but_unlisted conf links c.args.prefix c.args.self.now c.unlist.new.self.alike (but_marked conf links c.args.prefix c.args.self.now c.requires.marked) c.unlist.ensures.listed) in
     let routes = routes_either c.announce-announced.result c.args.slot c.args.prefix (Some c.args.attrs.value) old.adj_in new.adj_in ((s : ℕ) (p : Prefix) → offer_at new.book s p ≡ offer_at old.book s p) (rows_of new.book ≡ rows_of old.book) c.announce-announced.ensures.routes c.announce-announced.ensures.err in
-    but_changed conf links c.args.prefix old new but refl refl c.announce-announced.ensures.others routes
+    but_changed conf (linked peers inside.sent) c.args.prefix old new but refl refl c.announce-announced.ensures.others routes

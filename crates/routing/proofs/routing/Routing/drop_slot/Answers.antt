@@ -1,4 +1,4 @@
-use Rattle.std.proofs.Common.{◌≡◌, false, ap, subst}
+use Rattle.std.proofs.Common.{◌≡◌, ◌∙◌, false, ap, refl, subst}
 use Rattle.std.specs.Option.{IsSome}
 use Rattle.std.specs.Ordering.{is_gt}
 use Rattle.net_prefix.specs.PrefixOrder.{IsAbove, prefix_cmp}
@@ -11,7 +11,7 @@ use Rattle.routing.proofs.Counting.{counts_more, counts_none, there_more}
 use Rattle.routing.proofs.routing.Routing.drop_slot.Goals as goal
 
 pub loop-prefix-init : goal.loop-prefix-init
-loop-prefix-init g c = (drops_first _ _, others_first _ _, c.requires, λ p there. there, counts_none _ _)
+loop-prefix-init g c = (drops_first _ _, others_first _ _, c.requires, λ p there. there, counts_none _ _, refl)
 
 pub loop-prefix-preserved : goal.loop-prefix-preserved
 loop-prefix-preserved g c =
@@ -24,6 +24,7 @@ loop-prefix-preserved g c =
       c.withdraw.ensures.marked,
       there_more c.args.slot c.in-Some.prefix _ _ _ h.3 c.withdraw.ensures.routes,
       counts_more _ c.loop-prefix.after c.in-Some.prefix _ _ _ h.4 c.in-Some.ensures.above (h.3 c.in-Some.prefix has) c.withdraw.ensures.chosen c.withdraw.ensures.rises,
+      c.withdraw.ensures.sent ∙ h.5,
     )
 
 pub returns-clause-chosen : goal.returns-clause-chosen

@@ -1,14 +1,11 @@
 use Rattle.std.proofs.Common.{◌≡◌, ◌∙◌, ap}
-use Rattle.std.specs.Option.{option_map}
-use Rattle.bgp_fsm.specs.Transports.{transport_of}
-use Rattle.routing.specs.Linked.{Linked}
 use Rattle.speaker.specs.Shown.{transport_at}
+use Rattle.speaker.proofs.PeersSeen.{session_seen}
 use Rattle.speaker.proofs.step.Speaker.transport_to.Goals as goal
 
 pub returns-in-Some : goal.returns-in-Some
 returns-in-Some g c =
-    let told : c.transport.result ≡ transport_of c.in-Some.found.now.peer.session = rw (← c.found.view_is) c.transport.ensures in
-    rw (← c.self.view_is) (told ∙ ap (λ x. transport_at (option_map (λ (l : Linked). l.peer.session) x)) c.in-Some.ensures.value)
+    rw (← c.self.view_is) (c.transport.ensures ∙ ap transport_at (session_seen _ _ c.in-Some.ensures.value))
 
 pub returns-in-None : goal.returns-in-None
-returns-in-None g c = rw (← c.self.view_is) (ap (λ x. transport_at (option_map (λ (l : Linked). l.peer.session) x)) c.in-None.ensures.value)
+returns-in-None g c = rw (← c.self.view_is) (ap transport_at (session_seen _ _ c.in-None.ensures.value))
