@@ -5,7 +5,6 @@ use payload_lists::{PayloadListFault, read_payloads};
 use std::alloc::Global;
 use std::io::Read;
 use vrp_csv::{CsvFault, RowFault};
-use vrp_json::JsonFault;
 
 const ROWS: &[u8] = b"ASN,IP Prefix,Max Length,Trust Anchor\nAS1,10.0.0.0/8,9,ta\n";
 
@@ -40,11 +39,6 @@ const FAILS_AT_ROW_2: PayloadListFault = PayloadListFault::Row(CsvFault {
     row: 2,
 });
 
-const NO_HEADER: PayloadListFault = PayloadListFault::Row(CsvFault {
-    fault: RowFault::Header,
-    row: 0,
-});
-
 // Lists whose device fails behind these octets, and why they are refused.
 #[rattlefmt::skip]
 const FAILING: [(&[u8], PayloadListFault); 6] = [
@@ -56,17 +50,6 @@ const FAILING: [(&[u8], PayloadListFault); 6] = [
     (JSON,         PayloadListFault::Io),
 ];
 
-// Lists that end behind these octets.
-#[rattlefmt::skip]
-const ENDING: [(&[u8], PayloadListFault); 6] = [
-    (b"",              NO_HEADER),
-    (b" \r\n\t",       NO_HEADER),
-    (b"\xEF\xBB\xBF{}", NO_HEADER),
-    (b"[]",            NO_HEADER),
-    (b"\n{}",          PayloadListFault::Json(JsonFault::NoRoas)),
-    (b" {",            PayloadListFault::Json(JsonFault::Text(2))),
-];
-
 fn refusal<L: Read + Drop>(alloc: Global, list: L) -> Option<PayloadListFault> {
     read_payloads(alloc, list, None).err()
 }
@@ -75,12 +58,5 @@ fn refusal<L: Read + Drop>(alloc: Global, list: L) -> Option<PayloadListFault> {
 fn a_failing_device_is_told_in_either_format(rt: HostRuntime) {
     for (octets, fault) in &FAILING {
         assert!(rt; refusal(rt.alloc(), Failing { octets: *octets }) == Some(*fault));
-    }
-}
-
-#[test]
-fn the_first_octet_tells_the_format(rt: HostRuntime) {
-    for (octets, fault) in &ENDING {
-        assert!(rt; refusal(rt.alloc(), *octets) == Some(*fault));
     }
 }

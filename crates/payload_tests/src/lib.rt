@@ -1,6 +1,5 @@
-//! Tests alone, of prefixes, payload lists, payload versions and PDUs: what no answer of a script shows, lists in either
-//! format whose device fails, a trie, the prefixes that a change of payloads concerns, what exceptions make of that and of states,
-//! and each growth refused in turn. A file is named for what it tests.
+//! Tests alone, of payload lists, payload versions and PDUs: what no answer of a script shows, lists whose device fails, a
+//! trie, what no end looks at or calls, and each growth refused in turn. A file is named for what it tests.
 //!
 //! They stand above the crates that they test, so that those are proved once. Octets, rows of tables, loads, lists and the
 //! states of routes are scripts of the crate play_scripts.
@@ -9,7 +8,7 @@
 #[cfg(test)]
 mod clients;
 #[cfg(test)]
-mod exceptions;
+mod deltas;
 #[cfg(test)]
 mod formats;
 #[cfg(test)]
@@ -17,9 +16,7 @@ mod lists;
 #[cfg(test)]
 mod origins;
 #[cfg(test)]
-mod pdu_faults;
-#[cfg(test)]
-mod pdu_octets;
+mod pdus;
 #[cfg(test)]
 mod prefixes;
 #[cfg(test)]
@@ -28,5 +25,3 @@ mod sets;
 mod tries;
 #[cfg(test)]
 mod version_memory;
-#[cfg(test)]
-mod versions;

@@ -1,26 +1,9 @@
-//! Lists of rows that end as lines do, and a device that fails. More lists are among the scripts of play_scripts.
+//! Lists whose device fails, and faults that no text brings. Lists are among the scripts of play_scripts and play_lists.
 
 use std::alloc::Global;
 use std::io;
 use std::io::Read;
 use vrp_csv::{CsvFault, RowFault, read_list};
-
-// Rows that end as lines of other systems do, behind a header of five columns; the last one has no end.
-const ROWS: &str =
-    "ASN,IP Prefix,Max Length,Trust Anchor,Expires\r\nAS1,10.0.0.0/8,9,ta,0\r\n\r\nAS2,10.0.0.0/8,9,ta,";
-
-// Whether a list has two rows, and two payloads.
-fn has_two_rows(alloc: Global, list: &str) -> bool {
-    match read_list(alloc, list.as_bytes()) {
-        Ok(loaded) => loaded.rows == 2 && loaded.set.len() == 2,
-        Err(_) => false,
-    }
-}
-
-#[test]
-fn rows_end_as_lines_do(rt: HostRuntime) {
-    assert!(rt; has_two_rows(rt.alloc(), ROWS));
-}
 
 // A device that gives its octets one by one, and then fails.
 #[derive(Drop)]

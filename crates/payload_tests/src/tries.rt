@@ -1,4 +1,5 @@
-//! A trie: what its calls answer, which of them takes memory, and that it stays as it was where a growth is refused.
+//! A trie: how far it looks for what covers a prefix, which call takes memory, and that it stays as it was where a growth is
+//! refused.
 ghost use Rattle.std.specs.Iterator.{IsFinite};
 
 use crate::sets::requests_of;
@@ -32,37 +33,9 @@ fn fills(trie: &mut Trie<u64>) -> bool {
     true
 }
 
-// Whether the trie has just the entries, each after the one before it.
-fn has_all(trie: &Trie<u64>) -> bool {
-    let mut last = None;
-    for (prefix, value) in &ENTRIES {
-        if trie.after(last) != Some(*prefix) || trie.get(prefix) != Some(value) {
-            return false;
-        }
-        last = Some(*prefix);
-    }
-    trie.after(last).is_none() && trie.len() == ENTRIES.len()
-}
-
-fn finds_entries(trie: &mut Trie<u64>) -> bool {
-    let is_empty = trie.after(None).is_none() && trie.len() == 0;
-    is_empty && fills(trie) && has_all(trie)
-}
-
-#[test]
-fn entries_are_found_in_the_order_of_prefixes(rt: HostRuntime) {
-    let mut trie = Trie::new(rt.alloc());
-    assert!(rt; finds_entries(&mut trie));
-}
-
 const TOP: Prefix = Prefix {
     bits: 0x0a00_0000,
     len: 8,
-};
-
-const BELOW: Prefix = Prefix {
-    bits: 0x0a01_0000,
-    len: 16,
 };
 
 const MISSING: Prefix = Prefix {
@@ -73,30 +46,6 @@ const MISSING: Prefix = Prefix {
 // Gives the prefix this value, if it is there.
 fn is_given<A: Allocator + Clone>(trie: &mut Trie<u64, A>, prefix: &Prefix, new: u64) -> bool {
     trie.update(prefix, |value: &mut u64| *value = new)
-}
-
-// Whether the value of a prefix is changed; another one isn't there.
-fn changes(trie: &mut Trie<u64>) -> bool {
-    let is_changed = is_given(trie, &TOP, 64);
-    let is_missing = !is_given(trie, &MISSING, 64);
-    is_changed && is_missing && trie.get(&TOP) == Some(&64)
-}
-
-// Whether it is taken out then, once.
-fn takes_out(trie: &mut Trie<u64>) -> bool {
-    let is_taken = trie.remove(&TOP) == Some(64);
-    is_taken && trie.remove(&TOP).is_none() && trie.remove(&MISSING).is_none()
-}
-
-fn changes_and_takes_out(trie: &mut Trie<u64>) -> bool {
-    let is_done = fills(trie) && changes(trie) && takes_out(trie);
-    is_done && trie.len() == 5 && trie.get(&BELOW).is_some()
-}
-
-#[test]
-fn an_entry_is_changed_and_taken_out(rt: HostRuntime) {
-    let mut trie = Trie::new(rt.alloc());
-    assert!(rt; changes_and_takes_out(&mut trie));
 }
 
 // Whether just these of the entries are still to come.
@@ -116,39 +65,6 @@ fn covers<A: Allocator>(trie: &Trie<u64, A>, prefix: &Prefix, expected: &[Entry]
     comes(trie.covered(prefix), expected)
 }
 
-// Prefixes beside those of the entries: the lower half of one, one that covers another alone, and one that covers none.
-#[rattlefmt::skip]
-const BESIDE: [Prefix; 3] = [
-    Prefix { bits: 0x0a00_0000, len: 9 },
-    Prefix { bits: 0xc000_0000, len: 2 },
-    Prefix { bits: 0x0a01_0100, len: 24 },
-];
-
-// Whether those come that prefixes of entries cover.
-fn come_below(trie: &Trie<u64>) -> bool {
-    covers(trie, &ENTRIES[0].0, &ENTRIES)
-        && covers(trie, &ENTRIES[1].0, &ENTRIES[1..5])
-        && covers(trie, &ENTRIES[4].0, &ENTRIES[4..5])
-}
-
-// Whether those come that the others cover.
-fn come_beside(trie: &Trie<u64>) -> bool {
-    covers(trie, &BESIDE[0], &ENTRIES[2..4])
-        && covers(trie, &BESIDE[1], &ENTRIES[5..])
-        && covers(trie, &BESIDE[2], &[])
-}
-
-fn come_once_filled(trie: &mut Trie<u64>) -> bool {
-    let is_empty = comes(trie.iter(), &[]);
-    is_empty && fills(trie) && comes(trie.iter(), &ENTRIES) && come_below(trie) && come_beside(trie)
-}
-
-#[test]
-fn entries_come_in_the_order_of_prefixes(rt: HostRuntime) {
-    let mut trie = Trie::new(rt.alloc());
-    assert!(rt; come_once_filled(&mut trie));
-}
-
 // The entries that cover 10.1.1.0/24.
 #[rattlefmt::skip]
 const COVERING: [Entry; 3] = [
@@ -156,6 +72,11 @@ const COVERING: [Entry; 3] = [
     (Prefix { bits: 0x0a00_0000, len: 8 },   1),
     (Prefix { bits: 0x0a01_0000, len: 16 },  8),
 ];
+
+const COVERED: Prefix = Prefix {
+    bits: 0x0a01_0100,
+    len: 24,
+};
 
 // Whether what covers a prefix comes, and how many nodes are looked at meanwhile.
 fn is_covered(trie: &Trie<u64>, prefix: &Prefix) -> bool {
@@ -174,7 +95,7 @@ fn is_covered(trie: &Trie<u64>, prefix: &Prefix) -> bool {
 #[test]
 fn what_covers_a_prefix_comes_shortest_first(rt: HostRuntime) {
     let mut trie = Trie::new(rt.alloc());
-    assert!(rt; fills(&mut trie) && is_covered(&trie, &BESIDE[2]));
+    assert!(rt; fills(&mut trie) && is_covered(&trie, &COVERED));
 }
 
 // In this order each is put at another place: into nothing, over what is in its lower half, behind and before all

@@ -1,10 +1,10 @@
-//! What is published, what changed since, what a delta leaves of a set, and its faults. More versions are in scripts.
+//! What a delta leaves of a set, and its faults: no script applies one. Versions are in scripts.
 use crate::sets::ample_set;
 use net_prefix::{Asn, Prefix, Vrp};
 use std::alloc::Global;
 use std::collections::BTreeSet;
 use std::process::Abort;
-use vrp_delta::{Delta, DeltaFault, Versions, apply};
+use vrp_delta::{Delta, DeltaFault, apply};
 
 const TEN: Prefix = Prefix {
     bits: 0x0a00_0000,
@@ -56,54 +56,6 @@ fn a_delta_leaves_what_it_says(rt: HostRuntime) {
     let delta = delta_of(&rt, rt.alloc(), BEFORE, AFTER);
     let set = ample_set(&rt, rt.alloc(), &[BEFORE, STAYS]);
     assert!(rt; leaves(set, &delta, Ok(()), &[AFTER, STAYS]));
-}
-
-// Whether just these payloads left and came since the version of the serial, if it is kept.
-fn is_change(versions: &Versions, serial: u32, change: Option<(&[Vrp], &[Vrp])>) -> bool {
-    match (versions.delta_from(serial), change) {
-        (Ok(Some(delta)), Some((gone, come))) => {
-            delta.withdrawn.iter().eq(gone) && delta.announced.iter().eq(come)
-        }
-        (Ok(None), None) => true,
-        _ => false,
-    }
-}
-
-// Publishes a set, and then another twice.
-fn publishes(versions: &mut Versions, first: &BTreeSet<Vrp>, second: &BTreeSet<Vrp>) -> bool {
-    let is_first = versions.current().is_none() && versions.publish(first) == Ok(1);
-    is_first && versions.publish(second) == Ok(2) && versions.publish(second) == Ok(2)
-}
-
-// Whether it is told then what changed since each version.
-fn tells_changes(versions: &Versions) -> bool {
-    is_change(versions, 1, Some((&[BEFORE], &[AFTER])))
-        && is_change(versions, 2, Some((&[], &[])))
-        && is_change(versions, 0, None)
-}
-
-// Whether what changed since the first version leads from its set to the second.
-fn leads(versions: &Versions, first: &mut BTreeSet<Vrp>, second: &BTreeSet<Vrp>) -> bool {
-    match versions.delta_from(1) {
-        Ok(Some(delta)) => apply(first, &delta).is_ok() && *first == *second,
-        _ => false,
-    }
-}
-
-fn leads_from_the_first_to_the_second(
-    versions: &mut Versions,
-    first: &mut BTreeSet<Vrp>,
-    second: &BTreeSet<Vrp>,
-) -> bool {
-    publishes(versions, first, second) && tells_changes(versions) && leads(versions, first, second)
-}
-
-#[test]
-fn a_delta_leads_from_the_first_list_to_the_second(rt: HostRuntime) {
-    let mut first = ample_set(&rt, rt.alloc(), &[BEFORE, STAYS]);
-    let second = ample_set(&rt, rt.alloc(), &[AFTER, STAYS]);
-    let mut versions = Versions::new(rt.alloc());
-    assert!(rt; leads_from_the_first_to_the_second(&mut versions, &mut first, &second));
 }
 
 // Whether a set of these payloads refuses the delta so, and stays.
