@@ -1,5 +1,6 @@
 pub mod EndedSlots
 pub mod RowFinds
-pub mod RowSteps
 pub mod RowTables
 pub mod RowWalks
+pub mod SentSteps
+pub mod SentTables

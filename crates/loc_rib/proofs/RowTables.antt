@@ -24,8 +24,8 @@ use Rattle.rib_in.proofs.Ordered.{insert-same}
 use Rattle.rib_in.proofs.SlotWalks.{some_route}
 use Rattle.rib_in.specs.PrefixRoutes.{IsAnnounced, is_only}
 use Rattle.rib_in.specs.LatestRoutes.{HasRoute, is_route, route_among, route_at, route_in}
-use Rattle.loc_rib.specs.PrefixRows.{AreRows, IsRow, PrefixRow, RowTable, adj_in_of, best_of, book_of, offer_of, route_of}
-use Rattle.loc_rib.proofs.RowSteps.{best_routed, is_some-from, none_there, offer_routed, only_offer, only_route, slot_test}
+use Rattle.rib_rows.specs.PrefixRows.{AreRows, IsRow, PrefixRow, RowTable, adj_in_of, best_of, book_of, offer_of, route_of}
+use Rattle.rib_rows.proofs.RowSteps.{best_routed, is_some-from, none_there, offer_routed, only_offer, only_route, slot_test}
 
 -- ---- the rows of a book
 

@@ -1,2 +1,2 @@
-pub mod PrefixRows
 pub mod RibTables
+pub mod SentTables

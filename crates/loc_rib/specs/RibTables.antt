@@ -1,19 +1,21 @@
--- Adj-RIB-In with the candidates that its routes make (RFC 4271 section 3.2).
+-- Adj-RIB-In with the candidates that its routes make, and what the peers hold (RFC 4271 section 3.2).
 use Rattle.std.specs.Prelude.{◌≡◌, ◌≢◌, ◌≤◌, ◌+◌, ◌-◌, ◌^◌, ℕ, min, []}
 use Rattle.decision.specs.BookContents.{BookState, best_at, rows_of}
 use Rattle.net_prefix.specs.declared.prefix.Prefix.{Prefix}
 use Rattle.rib_in.specs.LatestRoutes.{RouteTable}
+use Rattle.loc_rib.specs.SentTables.{SentTable}
 
--- the latest route of each slot and prefix, the candidates that they make with the best of each prefix, and how often
--- a best one was chosen so far: a count that stays at 2^64 - 1 where it has reached it
+-- the latest route of each slot and prefix, the candidates that they make with the best of each prefix, how often
+-- a best one was chosen so far, a count that stays at 2^64 - 1 where it has reached it, and what the peers hold
 pub record RibTables : Type 0 where
   pub adj_in : RouteTable
   pub book : BookState
   pub chosen : ℕ
+  pub sent : SentTable
 
--- no routes, and nothing was chosen
+-- no routes, nothing was chosen, and no peer holds anything
 abbrev pub started : RibTables
-started = record { adj_in = []; book = []; chosen = 0 }
+started = record { adj_in = []; book = []; chosen = 0; sent = [] }
 
 -- the count rose by this many at most
 abbrev pub RisesBy : ℕ → RibTables → RibTables → Type 0

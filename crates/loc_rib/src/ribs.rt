@@ -1,6 +1,6 @@
-//! Adj-RIB-In and Loc-RIB (RFC 4271 section 3.2): the peers' latest routes, the candidates that they make, and the best
-//! route of each prefix.
-ghost use Rattle.std.specs.Prelude.{◌≡◌, ◌≢◌, ◌==◌, ℕ, false, All, IfOk, MatchBool, OnOk, OnErr, None, Some, length, if◌then◌else◌};
+//! Adj-RIB-In, Loc-RIB and Adj-RIB-Out (RFC 4271 section 3.2): the peers' latest routes, the candidates that they make,
+//! the best route of each prefix, and what the peers hold.
+ghost use Rattle.std.specs.Prelude.{◌≡◌, ◌≢◌, ◌<◌, ◌==◌, ℕ, [], true, false, All, IfOk, IsTrue, MatchBool, OnOk, OnErr, None, Some, length, if◌then◌else◌};
 ghost use Rattle.std.specs.List.Sorted.{IsStrictlySortedBy};
 ghost use Rattle.std.specs.Map.{keys_of, lookup};
 ghost use Rattle.std.specs.Option.{IfNone, IfSome, IsSome, option_copied};
@@ -11,54 +11,74 @@ ghost use Rattle.decision.specs.declared.candidate.Candidate.{Candidate as TheCa
 ghost use Rattle.net_prefix.specs.PrefixOrder.{IsAbove, prefix_cmp};
 ghost use Rattle.net_prefix.specs.declared.prefix.Prefix.{Prefix as ThePrefix};
 ghost use Rattle.rib_in.specs.LatestRoutes.{HasRoute, is_route, route_at, routes_of};
-ghost use Rattle.prefix_trie.specs.TrieMap.{IsRising};
+ghost use Rattle.prefix_trie.specs.TrieMap.{IsRising, found};
 ghost use Rattle.prefix_trie.specs.TrieWalks.{IsNext, all_after};
+ghost use Rattle.rib_out.specs.Held.{all_asked, asked_at, held_at, is_among};
+ghost use Rattle.rib_out.specs.Holdings.{held_by};
+ghost use Rattle.rib_rows.specs.Picked.{picked};
+ghost use Rattle.rib_rows.specs.PrefixRows.{adj_in_of, book_of};
+ghost use Rattle.rib_rows.specs.Records.{routed};
 ghost use Rattle.loc_rib.specs.RibTables.{CountsAnother, CountsOne, RisesBy, started};
+ghost use Rattle.loc_rib.specs.SentTables.{sent_to};
 
-use crate::row_map::{
-    RowMap, announce_in, bring_in, change_in, first_best, first_of_slot, withdraw_in,
-};
+use crate::adj_out::AdjOut;
 use crate::rows::Rows;
+use crate::sent::{drop_all, hold_all, ready_all, renew_all, tidy_all};
+use crate::sent_marks::SentMarks;
 use crate::slot_routes::SlotRoutes;
 use bgp_attr::Attrs;
 use decision::{Book, Candidate, Change, Meter};
 use net_prefix::Prefix;
+use rib_out::SentAttributes;
+use rib_rows::{
+    Record, RecordMap, announce_in, ask_in, bring_in, change_in, clear_in, first_best,
+    first_of_slot, first_routed, withdraw_in,
+};
 use std::alloc::{AllocError, Allocator};
-use std::collections::BTreeMap;
+use std::collections::{BTreeMap, btree_map};
 use std::marker::Model;
 use std::ops::Bound;
 use std::rc::Rc;
 
-/// The routes that came, the candidates that they make, and the best of each prefix.
+/// The routes that came, the candidates that they make, the best of each prefix, and what the peers hold.
 #[derive(Drop)]
 pub struct Ribs<A: Allocator + Clone, B: Book<A>> {
-    rows: RowMap<A, B>,
-    // Of the rows, and of the routes to one prefix but the first.
+    rows: RecordMap<A, B>,
+    // Of the records, and of the routes to one prefix and what is held of it but the first.
     alloc: A,
     meter: Meter,
+    marks: SentMarks,
 }
 
 impl<A: Allocator + Clone, B: Book<A>> Model for Ribs<A, B> {
-    ghost use Rattle.loc_rib.specs.PrefixRows.{AreRows, adj_in_of, book_of};
+    ghost use Rattle.rib_rows.specs.PrefixRows.{adj_in_of, book_of};
+    ghost use Rattle.rib_rows.specs.Records.{AreRecords, routed, sent_of};
     ghost use Rattle.loc_rib.specs.RibTables.{RibTables};
+    ghost use Rattle.loc_rib.specs.SentTables.{AreMarked};
 
     ghost Value = { RibTables };
 
-    ghost view = { λ r. record { adj_in = adj_in_of r.rows.entries; book = book_of r.rows.entries; chosen = r.meter.count } };
+    ghost view = { λ r. record {
+      adj_in = adj_in_of (routed r.rows.entries);
+      book = book_of (routed r.rows.entries);
+      chosen = r.meter.count;
+      sent = sent_of r.rows.entries;
+    } };
 
-    ghost invariant = { λ r. AreRows r.rows.entries };
+    ghost invariant = { λ r. AreRecords r.rows.entries × AreMarked (sent_of r.rows.entries) r.marks.holders r.marks.askers r.marks.all_asked };
 }
 
 impl<A: Allocator + Clone, B: Book<A>> Ribs<A, B> {
-    /// No routes.
+    /// No routes, and no peer holds anything.
     pub fn new(alloc: A) -> Result<Self, AllocError>
-        ensures { IfOk result (λ ribs. ribs ≡ started) }
+        ensures { IfOk result (λ ribs. (ribs ≡ record started { sent = ribs.sent }) × ((s : ℕ) → sent_to ribs.sent s ≡ [])) }
     {
         let rows = BTreeMap::new(alloc.clone()?);
         Ok(Ribs {
             rows,
             alloc,
             meter: Meter::new(),
+            marks: SentMarks::new(),
         })
     }
 
@@ -85,6 +105,7 @@ impl<A: Allocator + Clone, B: Book<A>> Ribs<A, B> {
         ensures same { offer_at self.old.book slot prefix ≡ candidate → self.new.chosen ≡ self.old.chosen }
         ensures made { OnOk result (offer_at self.old.book slot prefix ≢ candidate → CountsOne self.old self.new) }
         ensures refused { OnErr result (self.new.chosen ≡ self.old.chosen) }
+        ensures sent { self.new.sent ≡ self.old.sent }
     {
         announce_in(
             &mut self.rows,
@@ -115,6 +136,7 @@ impl<A: Allocator + Clone, B: Book<A>> Ribs<A, B> {
         ensures rows { rows_of self.new.book ≡ rows_of self.old.book }
         ensures other { IfOk result (λ back. IfNone back (IfSome (best_at (rows_of self.old.book) prefix) (λ c. c.slot ≢ slot))) }
         ensures chosen { self.new.chosen ≡ self.old.chosen }
+        ensures sent { self.new.sent ≡ self.old.sent }
     {
         bring_in(&mut self.rows, &self.alloc, slot, prefix, attrs)
     }
@@ -132,6 +154,7 @@ impl<A: Allocator + Clone, B: Book<A>> Ribs<A, B> {
         ensures unrouted { route_at self.old.adj_in slot prefix ≡ None → self.new.chosen ≡ self.old.chosen }
         ensures never { offer_at self.old.book slot prefix ≡ None → self.new.chosen ≡ self.old.chosen }
         ensures gone { offer_at self.old.book slot prefix ≢ None → CountsOne self.old self.new }
+        ensures sent { self.new.sent ≡ self.old.sent }
     {
         withdraw_in(&mut self.rows, &mut self.meter, slot, prefix);
     }
@@ -148,6 +171,7 @@ impl<A: Allocator + Clone, B: Book<A>> Ribs<A, B> {
         ensures another { CountsAnother prefix self.old self.new }
         ensures same { ((s : ℕ) → changed changes.now s (offer_at self.old.book s prefix) ≡ offer_at self.old.book s prefix) → self.new.chosen ≡ self.old.chosen }
         ensures made { (s : ℕ) → changed changes.now s (offer_at self.old.book s prefix) ≢ offer_at self.old.book s prefix → CountsOne self.old self.new }
+        ensures sent { self.new.sent ≡ self.old.sent }
     {
         change_in(&mut self.rows, &mut self.meter, prefix, changes);
     }
@@ -159,7 +183,7 @@ impl<A: Allocator + Clone, B: Book<A>> Ribs<A, B> {
         ensures routed { (s : ℕ) (p : ThePrefix) → IsSome (offer_at self.now.book s p) → IsSome (route_at self.now.adj_in s p) }
     {
         match self.rows.get(&prefix) {
-            Some(row) => row.get(slot),
+            Some(record) => record.get(slot),
             None => None,
         }
     }
@@ -168,7 +192,10 @@ impl<A: Allocator + Clone, B: Book<A>> Ribs<A, B> {
     pub fn is_routed(&self, prefix: Prefix) -> bool
         ensures { MatchBool result (HasRoute self.now.adj_in prefix) ((s : ℕ) → route_at self.now.adj_in s prefix ≡ None) }
     {
-        self.rows.get(&prefix).is_some()
+        match self.rows.get(&prefix) {
+            Some(record) => record.is_routed(),
+            None => false,
+        }
     }
 
     /// The least prefix above the given one to which a slot has a route, or the least of all.
@@ -178,34 +205,8 @@ impl<A: Allocator + Clone, B: Book<A>> Ribs<A, B> {
         ensures least { IfSome result (λ p. (s : ℕ) (q : ThePrefix) → IsAbove after q → IsSome (route_at self.now.adj_in s q) → is_gt (prefix_cmp p q) ≡ false) }
         ensures none { IfNone result ((s : ℕ) (q : ThePrefix) → IsAbove after q → route_at self.now.adj_in s q ≡ None) }
     {
-        match after {
-            Some(prefix) => self.routed_above(prefix),
-            None => self.first_routed(),
-        }
-    }
-
-    fn routed_above(&self, after: Prefix) -> Option<Prefix>
-        ensures has { IfSome result (λ p. HasRoute self.now.adj_in p) }
-        ensures above { IfSome result (λ p. prefix_cmp after p ≡ Less) }
-        ensures least { IfSome result (λ p. (s : ℕ) (q : ThePrefix) → prefix_cmp after q ≡ Less → IsSome (route_at self.now.adj_in s q) → is_gt (prefix_cmp p q) ≡ false) }
-        ensures none { IfNone result ((s : ℕ) (q : ThePrefix) → prefix_cmp after q ≡ Less → route_at self.now.adj_in s q ≡ None) }
-    {
-        let mut above = self.rows.range((Bound::Excluded(after), Bound::Unbounded));
-        match above.next() {
-            Some((prefix, _)) => Some(*prefix),
-            None => None,
-        }
-    }
-
-    fn first_routed(&self) -> Option<Prefix>
-        ensures has { IfSome result (λ p. HasRoute self.now.adj_in p) }
-        ensures least { IfSome result (λ p. (s : ℕ) (q : ThePrefix) → IsSome (route_at self.now.adj_in s q) → is_gt (prefix_cmp p q) ≡ false) }
-        ensures none { IfNone result ((s : ℕ) (q : ThePrefix) → route_at self.now.adj_in s q ≡ None) }
-    {
-        match self.rows.first_key_value() {
-            Some((prefix, _)) => Some(*prefix),
-            None => None,
-        }
+        self.rises();
+        first_routed(self.records_after(after))
     }
 
     /// The least prefix above the given one, or of all, to which the slot has a route. It is found by going along the
@@ -216,16 +217,8 @@ impl<A: Allocator + Clone, B: Book<A>> Ribs<A, B> {
         ensures least { IfSome result (λ p. (q : ThePrefix) → IsAbove after q → IsSome (route_at self.now.adj_in slot q) → is_gt (prefix_cmp p q) ≡ false) }
         ensures none { IfNone result ((q : ThePrefix) → IsAbove after q → route_at self.now.adj_in slot q ≡ None) }
     {
-        match after {
-            Some(prefix) => first_of_slot(
-                self.rows.range((Bound::Excluded(prefix), Bound::Unbounded)),
-                slot,
-            ),
-            None => {
-                let all: (Bound<Prefix>, Bound<Prefix>) = (Bound::Unbounded, Bound::Unbounded);
-                first_of_slot(self.rows.range(all), slot)
-            }
-        }
+        self.rises();
+        first_of_slot(self.records_after(after), slot)
     }
 
     /// The routes of a slot, in rising order of prefix.
@@ -259,9 +252,29 @@ impl<A: Allocator + Clone, B: Book<A>> Ribs<A, B> {
 
     // The prefixes with routes rise.
     fn rises(&self)
-        ensures { IsRising self.now.adj_in }
+        ensures rising { IsRising self.now.adj_in }
+        ensures routed { (p : ThePrefix) → IsSome (found self.now.adj_in p) → HasRoute self.now.adj_in p }
     {
         self.rows.len();
+    }
+
+    // The records of prefixes above the given one, or all.
+    pub(crate) fn records_after(
+        &self,
+        after: Option<Prefix>,
+    ) -> btree_map::Range<'_, Prefix, Record<A, B>>
+        ensures adj_in { adj_in_of (routed result) ≡ all_after after self.now.adj_in }
+        ensures book { book_of (routed result) ≡ all_after after self.now.book }
+        ensures sent { (s : ℕ) → picked (λ r. held_by r.sent s) result ≡ all_after after (sent_to self.now.sent s) }
+        ensures rising { (s : ℕ) → IsRising (sent_to self.now.sent s) }
+    {
+        match after {
+            Some(prefix) => self.rows.range((Bound::Excluded(prefix), Bound::Unbounded)),
+            None => {
+                let all: (Bound<Prefix>, Bound<Prefix>) = (Bound::Unbounded, Bound::Unbounded);
+                self.rows.range(all)
+            }
+        }
     }
 
     /// The best route of a prefix.
@@ -269,7 +282,7 @@ impl<A: Allocator + Clone, B: Book<A>> Ribs<A, B> {
         ensures { result ≡ best_at (rows_of self.now.book) prefix }
     {
         match self.rows.get(&prefix) {
-            Some(row) => row.best(),
+            Some(record) => record.best(),
             None => None,
         }
     }
@@ -280,7 +293,7 @@ impl<A: Allocator + Clone, B: Book<A>> Ribs<A, B> {
         ensures some { IfSome result (λ r. (best_at (rows_of self.now.book) prefix ≡ Some r.0) × (route_at self.now.adj_in r.0.slot prefix ≡ Some r.1.now.value)) }
     {
         match self.rows.get(&prefix) {
-            Some(row) => row.best_route(),
+            Some(record) => record.best_route(),
             None => None,
         }
     }
@@ -322,15 +335,7 @@ impl<A: Allocator + Clone, B: Book<A>> Ribs<A, B> {
     pub(crate) fn row_after(&self, after: Option<Prefix>) -> Option<(Prefix, Candidate)>
         ensures { result ≡ first_after after (rows_of self.now.book) }
     {
-        match after {
-            Some(prefix) => first_best(
-                self.rows.range((Bound::Excluded(prefix), Bound::Unbounded)),
-            ),
-            None => {
-                let all: (Bound<Prefix>, Bound<Prefix>) = (Bound::Unbounded, Bound::Unbounded);
-                first_best(self.rows.range(all))
-            }
-        }
+        first_best(self.records_after(after))
     }
 
     /// Loc-RIB, row by row in rising order.
@@ -349,5 +354,115 @@ impl<A: Allocator + Clone, B: Book<A>> Ribs<A, B> {
     {
         self.is_chosen();
         Rows::behind(self, after)
+    }
+
+    /// What the slot's peer holds: its Adj-RIB-Out.
+    pub fn adj_out(&self, slot: u8) -> AdjOut<'_, A, B>
+        requires { slot < 64 }
+        ensures { result ≡ sent_to self.now.sent slot }
+    {
+        AdjOut::of(self, slot)
+    }
+
+    // The attributes of a prefix that the slot's peer holds, and whether it has asked for them again.
+    pub(crate) fn held(&self, slot: u8, prefix: Prefix) -> Option<(&SentAttributes<A>, bool)>
+        requires { slot < 64 }
+        ensures some { IfSome result (λ r. found (sent_to self.now.sent slot) prefix ≡ Some (record { octets = r.0.now; asked = r.1 })) }
+        ensures none { IfNone result (found (sent_to self.now.sent slot) prefix ≡ None) }
+    {
+        let record = self.rows.get(&prefix)?;
+        let sent = record.held(slot)?;
+        Some((sent, record.is_asked(slot)))
+    }
+
+    // Whether it is known that the slot's peer has asked again for each prefix that it holds.
+    pub(crate) fn is_all_asked(&self, slot: u8) -> bool
+        requires { slot < 64 }
+        ensures { IsTrue result → all_asked (sent_to self.now.sent slot) ≡ sent_to self.now.sent slot }
+    {
+        self.marks.is_all_asked(slot)
+    }
+
+    // Whether it is known that the slot's peer has asked again for nothing that it holds.
+    pub(crate) fn is_none_asked(&self, slot: u8) -> bool
+        requires { slot < 64 }
+        ensures { IsTrue result → (q : ThePrefix) → asked_at (sent_to self.now.sent slot) q ≡ false }
+    {
+        !self.marks.may_ask(slot)
+    }
+
+    /// The slot's peer holds nothing.
+    pub fn clear_sent(&mut self, slot: u8)
+        ensures sent { (s : ℕ) → sent_to self.new.sent s ≡ (if s == slot then [] else sent_to self.old.sent s) }
+        ensures rest { self.new ≡ record self.old { sent = self.new.sent } }
+    {
+        if !self.marks.may_hold(slot) {
+            return;
+        }
+        clear_in(&mut self.rows, slot);
+        self.marks.clear(slot);
+    }
+
+    /// The slot's peer asks again for each prefix that it holds (RFC 2918 section 4). It takes no memory.
+    pub fn ask_sent(&mut self, slot: u8)
+        requires { slot < 64 }
+        ensures sent { (s : ℕ) → sent_to self.new.sent s ≡ (if s == slot then all_asked (sent_to self.old.sent s) else sent_to self.old.sent s) }
+        ensures rest { self.new ≡ record self.old { sent = self.new.sent } }
+    {
+        if self.marks.is_all_asked(slot) {
+            return;
+        }
+        ask_in(&mut self.rows, slot);
+        self.marks.ask(slot);
+    }
+
+    /// The slot's peer holds these prefixes no more, and has asked for none of them again.
+    pub fn withdraw_sent(&mut self, slot: u8, prefixes: &[Prefix])
+        requires { slot < 64 }
+        ensures held { (q : ThePrefix) → held_at (sent_to self.new.sent slot) q ≡ (if is_among q prefixes.now then None else held_at (sent_to self.old.sent slot) q) }
+        ensures asked { (q : ThePrefix) → asked_at (sent_to self.new.sent slot) q ≡ (if is_among q prefixes.now then false else asked_at (sent_to self.old.sent slot) q) }
+        ensures others { (s : ℕ) → s ≢ slot → sent_to self.new.sent s ≡ sent_to self.old.sent s }
+        ensures rest { self.new ≡ record self.old { sent = self.new.sent } }
+    {
+        drop_all(&mut self.rows, slot, prefixes);
+    }
+
+    /// The slot's peer has asked for none of these prefixes again. It takes no memory.
+    pub fn renew_sent(&mut self, slot: u8, prefixes: &[Prefix])
+        requires { slot < 64 }
+        ensures held { (q : ThePrefix) → held_at (sent_to self.new.sent slot) q ≡ held_at (sent_to self.old.sent slot) q }
+        ensures asked { (q : ThePrefix) → asked_at (sent_to self.new.sent slot) q ≡ (if is_among q prefixes.now then false else asked_at (sent_to self.old.sent slot) q) }
+        ensures others { (s : ℕ) → s ≢ slot → sent_to self.new.sent s ≡ sent_to self.old.sent s }
+        ensures rest { self.new ≡ record self.old { sent = self.new.sent } }
+    {
+        if !self.marks.may_ask(slot) {
+            return;
+        }
+        renew_all(&mut self.rows, slot, prefixes);
+        self.marks.send(slot);
+    }
+
+    /// The slot's peer holds these attributes of these prefixes, and has asked for none of them again. Where memory is
+    /// refused, nothing changes.
+    pub fn announce_sent(
+        &mut self,
+        slot: u8,
+        prefixes: &[Prefix],
+        attrs: &SentAttributes<A>,
+    ) -> Result<(), AllocError>
+        requires { slot < 64 }
+        ensures held { OnOk result ((q : ThePrefix) → held_at (sent_to self.new.sent slot) q ≡ (if is_among q prefixes.now then Some attrs.now else held_at (sent_to self.old.sent slot) q)) }
+        ensures asked { OnOk result ((q : ThePrefix) → asked_at (sent_to self.new.sent slot) q ≡ (if is_among q prefixes.now then false else asked_at (sent_to self.old.sent slot) q)) }
+        ensures others { (s : ℕ) → s ≢ slot → sent_to self.new.sent s ≡ sent_to self.old.sent s }
+        ensures err { OnErr result ((s : ℕ) → sent_to self.new.sent s ≡ sent_to self.old.sent s) }
+        ensures rest { self.new ≡ record self.old { sent = self.new.sent } }
+    {
+        if ready_all(&mut self.rows, &self.alloc, prefixes, attrs).is_err() {
+            tidy_all(&mut self.rows, prefixes);
+            return Err(AllocError);
+        }
+        hold_all(&mut self.rows, slot, prefixes, attrs);
+        self.marks.send(slot);
+        Ok(())
     }
 }

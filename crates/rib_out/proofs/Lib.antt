@@ -1,8 +1,8 @@
 pub mod AlikeLists
 pub mod HeldRows
 pub mod HeldTables
+pub mod HoldingLists
 pub mod PrefixRows
 pub mod Prefixes
 pub mod WaitingLists
 pub mod SlotBits
-pub mod Undos

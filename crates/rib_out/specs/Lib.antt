@@ -1,6 +1,9 @@
 pub mod Alike
 pub mod Held
+pub mod Holdings
+pub mod Kept
+pub mod Places
+pub mod PlacesFall
 pub mod PrefixRows
 pub mod Slots
-pub mod Undo
 pub mod Waiting

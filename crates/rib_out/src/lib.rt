@@ -1,11 +1,11 @@
-//! What a peer was last sent, and what waits for it: Adj-RIB-Out.
+//! What peers were last sent, and what waits for them: Adj-RIB-Out.
 //!
-//! `AdjOut` keeps, for each prefix that a peer was told of and that wasn't withdrawn since, the attributes that went with
-//! it (RFC 4271 section 3.2), and whether the peer has asked for it again since (RFC 2918). Only `announce` and
-//! `announce_all` take memory, and where they get none the table stays as it was: `announce_all` notes in an `UndoLog` what
-//! it changes. The attributes are `SentAttributes`: those that the route came with, shared with it, beside how they were
-//! changed on the way to the peer, which `RecentRewrite` shares among those that were changed alike. So no octets are kept:
-//! they are what is written of the two.
+//! `Holdings` is what all peers hold of one prefix: the attributes that went with it to each peer that was told of it
+//! and that it wasn't withdrawn from since (RFC 4271 section 3.2), each kept once with the slots of those peers, and the
+//! slots whose peers have asked for it again since (RFC 2918). Memory is taken only where a place is made for attributes
+//! that no peer holds yet, before anything changes. The attributes are `SentAttributes`: those that the route came with,
+//! shared with it, beside how they were changed on the way to the peer, which `RecentRewrite` shares among those that were
+//! changed alike. So no octets are kept: they are what is written of the two.
 //!
 //! `Waiting` is two queues for each slot: the withdrawals that wait for it and the announcements, each in the order of
 //! prefixes, so that the next is found soon. A queue takes memory as it grows. Where that is refused, the slot's queues are
@@ -20,17 +20,17 @@
 //! What is sent, and when, is decided above.
 #![tactic(auto)]
 
-mod adj_out;
 mod alike;
+mod holdings;
 mod marks;
+mod places;
+mod same;
 mod sent;
-mod slots;
-mod undo;
+pub mod slots;
 mod waiting;
 
-pub use adj_out::{AdjOut, HeldRoutes};
 pub use alike::AlikePrefixes;
+pub use holdings::Holdings;
 pub use marks::Owed;
 pub use sent::{RecentRewrite, SentAttributes};
-pub use undo::UndoLog;
 pub use waiting::Waiting;

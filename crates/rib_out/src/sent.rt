@@ -3,6 +3,7 @@ ghost use Rattle.std.specs.Prelude.{◌≡◌, ◌≤◌, ◌↔◌, Some, IfOk,
 ghost use Rattle.export_rules.specs.Export.{most_attributes};
 ghost use Rattle.export_rules.specs.Rewriting.{written};
 
+use crate::same::are_same;
 use arrayvec::ArrayVec;
 use bgp_attr::Attrs;
 use export_rules::Rewrite;
@@ -46,6 +47,22 @@ impl<A: Allocator> SentAttributes<A> {
         let mut sent = ArrayVec::<u8, 4096>::new();
         self.write(&mut sent);
         sent.as_slice() == octets
+    }
+
+    /// Whether both have the same octets.
+    pub fn is_equal(&self, other: &SentAttributes<A>) -> bool
+        ensures { IsTrue result → self.now ≡ other.now }
+    {
+        let mut octets = ArrayVec::<u8, 4096>::new();
+        other.write(&mut octets);
+        self.are(octets.as_slice())
+    }
+
+    /// Whether both came with the same attributes and were changed alike. Others may have the same octets all the same.
+    pub fn is_same(&self, other: &SentAttributes<A>) -> bool
+        ensures { IsTrue result → self.now ≡ other.now }
+    {
+        *self.rewrite == *other.rewrite && are_same(&self.attrs, &other.attrs)
     }
 
     /// The same attributes for one more prefix. No memory is taken.

@@ -11,7 +11,7 @@ pub(crate) fn only(slot: u8) -> u64
 }
 
 /// Whether the slot is one of the set.
-pub(crate) fn has(slots: u64, slot: u8) -> bool
+pub fn has(slots: u64, slot: u8) -> bool
     requires { slot < 64 }
     ensures { result ≡ has_slot slots slot }
 {
@@ -19,7 +19,7 @@ pub(crate) fn has(slots: u64, slot: u8) -> bool
 }
 
 /// The set with the slot.
-pub(crate) fn with(slots: u64, slot: u8) -> u64
+pub fn with(slots: u64, slot: u8) -> u64
     requires { slot < 64 }
     ensures { (s : ℕ) → has_slot result s ≡ (s == slot || has_slot slots s) }
 {
@@ -27,7 +27,7 @@ pub(crate) fn with(slots: u64, slot: u8) -> u64
 }
 
 /// The set without the slot.
-pub(crate) fn without(slots: u64, slot: u8) -> u64
+pub fn without(slots: u64, slot: u8) -> u64
     requires { slot < 64 }
     ensures { (s : ℕ) → has_slot result s ≡ (not (s == slot) && has_slot slots s) }
 {

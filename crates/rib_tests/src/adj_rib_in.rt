@@ -60,16 +60,6 @@ fn end_session<A: Allocator + Clone>(ribs: &mut Table<A>, slot: u8) {
     }
 }
 
-// Without routes.
-fn empty_table<A: Allocator + Clone>(rt: &impl Abort, alloc: A) -> Table<A>
-    ensures { AreAddressed (offer_at result.book) }
-{
-    match Ribs::new(alloc) {
-        Ok(table) => table,
-        Err(_) => panic!(rt; "no memory"),
-    }
-}
-
 fn count_routes<A: Allocator + Clone>(table: &Table<A>, slot: u8) -> u32 {
     let mut count = 0u32;
     for _ in table.routes_of(slot) {
@@ -133,7 +123,10 @@ fn take_out<A: Allocator + Clone>(rt: &impl Abort, table: &mut Table<A>) {
 // Fills a table from one heap with routes from another. Answers how often a growth was refused.
 fn refusals_in<A: Allocator + Clone>(rt: &impl Abort, heap: A, ample: A) -> u32 {
     let attrs = shared(rt, ample);
-    fill(rt, &mut empty_table(rt, heap), &attrs)
+    match Ribs::new(heap) {
+        Ok(mut table) => fill(rt, &mut table, &attrs),
+        Err(_) => 1,
+    }
 }
 
 #[test]

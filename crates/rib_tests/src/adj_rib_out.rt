@@ -1,13 +1,15 @@
 //! A refused growth of what a peer holds, and attributes that are changed alike.
-ghost use Rattle.std.specs.Prelude.{◌≤◌};
+ghost use Rattle.std.specs.Prelude.{◌≤◌, ◌<◌};
 
 use crate::given::{is_filled_at_last, prefix_of};
 use arrayvec::ArrayVec;
 use bgp_attr::Attrs;
+use decision::PlainBook;
 use export_rules::Rewrite;
+use loc_rib::Ribs;
 use net_prefix::{Asn, Prefix};
 use refusing::Refusing;
-use rib_out::{AdjOut, RecentRewrite, SentAttributes, UndoLog};
+use rib_out::{RecentRewrite, SentAttributes};
 use std::alloc::{AllocError, Allocator, Global};
 use std::process::Abort;
 use std::rc::Rc;
@@ -53,23 +55,26 @@ fn sent<A: Allocator + Clone>(
     recent.sent(attrs, rewrite)
 }
 
-// Announces a prefix with them. Answers whether it was taken.
+// The table, in which there are no routes.
+type Table<A> = Ribs<A, PlainBook<A>>;
+
+// Announces a prefix to the peer of slot 0. Answers whether it was taken.
 fn announce<A: Allocator + Clone>(
-    table: &mut AdjOut<A>,
+    table: &mut Table<A>,
     prefix: Prefix,
-    sent: Result<SentAttributes<A>, AllocError>,
+    sent: &SentAttributes<A>,
 ) -> bool {
-    match sent {
-        Ok(sent) => table.announce(prefix, sent).is_ok(),
-        Err(_) => false,
-    }
+    let prefixes = [prefix];
+    table.announce_sent(0, &prefixes, sent).is_ok()
 }
 
-// Whether the peer holds so many prefixes, each with this MULTI_EXIT_DISC.
-fn holds_so_many<A: Allocator + Clone>(table: &AdjOut<A>, med: u8, count: u32) -> bool {
+// Whether the slot's peer holds so many prefixes, each with this MULTI_EXIT_DISC.
+fn holds_so_many<A: Allocator + Clone>(table: &Table<A>, slot: u8, med: u8, count: u32) -> bool
+    requires { slot < 64 }
+{
     let octets = octets_of(med);
     let mut held = 0u32;
-    for (_, sent) in table.held() {
+    for (_, sent) in table.adj_out(slot).held() {
         if !sent.are(&octets) {
             return false;
         }
@@ -81,23 +86,24 @@ fn holds_so_many<A: Allocator + Clone>(table: &AdjOut<A>, med: u8, count: u32) -
 // Announces a prefix, and again where a growth is refused, behind so many others. Answers whether one was.
 fn is_announced_again<A: Allocator + Clone>(
     rt: &impl Abort,
-    table: &mut AdjOut<A>,
+    table: &mut Table<A>,
     sent: &SentAttributes<A>,
     prefix: Prefix,
     before: u32,
 ) -> bool {
-    let refused = !announce(table, prefix, sent.share());
+    let refused = !announce(table, prefix, sent);
     if refused {
-        assert!(rt; !table.is_held(prefix) && holds_so_many(table, 7, before));
-        assert!(rt; announce(table, prefix, sent.share()));
+        assert!(rt; !table.adj_out(0).is_held(prefix) && holds_so_many(table, 0, 7, before));
+        assert!(rt; announce(table, prefix, sent));
     }
     refused
 }
 
-// Fills the table with the same attributes, and asks again where a growth is refused. Answers how often one was.
+// Tells the peer of slot 0 prefixes with the same attributes one by one, and asks again where a growth is refused. Answers how
+// often one was.
 fn fill<A: Allocator + Clone>(
     rt: &impl Abort,
-    table: &mut AdjOut<A>,
+    table: &mut Table<A>,
     sent: &SentAttributes<A>,
 ) -> u32 {
     let mut refused = 0u32;
@@ -125,60 +131,59 @@ fn more_prefixes(rt: &impl Abort, alloc: Global) -> Result<Vec<Prefix>, AllocErr
     Ok(prefixes)
 }
 
-// Tells all of these prefixes to a peer that holds those of `fill` and has asked for them, and again where a growth is
-// refused. Answers whether one was.
-fn is_told_again<A: Allocator + Clone>(
+// Tells all of these 96 prefixes with 8 for MULTI_EXIT_DISC to a slot's peer that holds so many with 7, and again where a growth
+// is refused. Answers how often one was.
+fn tell_all<A: Allocator + Clone>(
     rt: &impl Abort,
-    table: &mut AdjOut<A>,
-    log: &mut UndoLog<A>,
+    table: &mut Table<A>,
+    slot: u8,
     prefixes: &[Prefix],
     sent: &SentAttributes<A>,
-) -> bool {
-    let refused = table.announce_all(prefixes, sent, log).is_err();
+    before: u32,
+) -> u32
+    requires { slot < 64 }
+{
+    let least = prefix_of(rt, 0, 24);
+    let was_asked = table.adj_out(slot).is_asked(least);
+    let refused = table.announce_sent(slot, prefixes, sent).is_err();
     if refused {
-        assert!(rt; holds_so_many(table, 7, 64) && table.is_asked(prefix_of(rt, 0, 24)));
-        assert!(rt; table.announce_all(prefixes, sent, log).is_ok());
+        assert!(rt; holds_so_many(table, slot, 7, before));
+        assert!(rt; table.adj_out(slot).is_asked(least) == was_asked);
+        assert!(rt; table.announce_sent(slot, prefixes, sent).is_ok());
     }
-    assert!(rt; holds_so_many(table, 8, 96) && !table.is_asked(prefix_of(rt, 0, 24)));
-    refused
+    assert!(rt; holds_so_many(table, slot, 8, 96) && !table.adj_out(slot).is_asked(least));
+    u32::from(refused)
 }
 
-// Fills the table, and tells the peer of more. Answers how often a growth was refused.
+// Fills the table, and tells both peers of more: the one of slot 1, which holds nothing, and that of slot 0, which has asked for
+// all again. Answers how often a growth was refused.
 fn refusals_told<A: Allocator + Clone>(
     rt: &impl Abort,
-    mut table: AdjOut<A>,
-    mut log: UndoLog<A>,
+    table: &mut Table<A>,
     prefixes: &[Prefix],
-    first: Result<SentAttributes<A>, AllocError>,
-    last: Result<SentAttributes<A>, AllocError>,
+    first: &SentAttributes<A>,
+    last: &SentAttributes<A>,
 ) -> u32 {
-    let Ok(first) = first else {
-        return 1;
-    };
-    let Ok(last) = last else {
-        return 1;
-    };
-    let refused = fill(rt, &mut table, &first);
-    table.ask_all();
-    if is_told_again(rt, &mut table, &mut log, prefixes, &last) {
-        refused.saturating_add(1)
-    } else {
-        refused
-    }
+    let filling = fill(rt, table, first);
+    table.ask_sent(0);
+    let other = tell_all(rt, table, 1, prefixes, last, 0);
+    assert!(rt; holds_so_many(table, 0, 7, 64) && table.adj_out(0).is_asked(prefix_of(rt, 0, 24)));
+    let own = tell_all(rt, table, 0, prefixes, last, 64);
+    filling.saturating_add(other).saturating_add(own)
 }
 
 // The same from the heap.
 fn refusals_all(rt: &impl Abort, heap: &Refusing<Global>, prefixes: &[Prefix]) -> u32 {
-    let first = sent_from(heap, 7);
-    let last = sent_from(heap, 8);
-    refusals_told(
-        rt,
-        AdjOut::new(heap),
-        UndoLog::new(heap),
-        prefixes,
-        first,
-        last,
-    )
+    let Ok(first) = sent_from(heap, 7) else {
+        return 1;
+    };
+    let Ok(last) = sent_from(heap, 8) else {
+        return 1;
+    };
+    let Ok(mut table) = Ribs::new(heap) else {
+        return 1;
+    };
+    refusals_told(rt, &mut table, prefixes, &first, &last)
 }
 
 #[test]

@@ -10,7 +10,8 @@ use Rattle.bgp_peer.specs.Slot.{Slot, taken_input}
 use Rattle.routing.specs.Linked.{Linked, adj_out_after, moved}
 use Rattle.routing.specs.Marks.{AreFew, AreMarked}
 use Rattle.routing.specs.RoutingState.{RoutingState}
-use Rattle.routing.specs.Sent.{SentTable, linked, linked_as, peer_in, sent_to}
+use Rattle.loc_rib.specs.SentTables.{SentTable, sent_to}
+use Rattle.routing.specs.Sent.{linked, linked_as, peer_in}
 use Rattle.routing.specs.Tables.{link_at}
 use Rattle.routing.proofs.LinkedPeers.{few_in, linked_at, linked_none, linked_put, linked_some, peer_of}
 

@@ -19,8 +19,8 @@ use crate::routes::Routes;
 use arrayvec::ArrayVec;
 use decision::Book;
 use export_rules::ExportPeer;
+use loc_rib::AdjOut;
 use net_prefix::Prefix;
-use rib_out::AdjOut;
 use routing::{Octets, place};
 use std::alloc::Allocator;
 
@@ -176,7 +176,7 @@ impl<A: Allocator + Clone, B: Book<A>> Routes<A, B> {
         if !self.is_exported_so(slot, peer, prefix, octets, other) {
             return false;
         }
-        is_new_to(self.routing.held(slot), prefix, octets)
+        is_new_to(&self.routing.held(slot), prefix, octets)
     }
 
     // Whether just these octets are exported of the prefix to the slot's peer.
@@ -197,7 +197,11 @@ impl<A: Allocator + Clone, B: Book<A>> Routes<A, B> {
 }
 
 // Whether these octets of the prefix are new to the slot's peer: it doesn't hold just them, or has asked for them again.
-fn is_new_to<A: Allocator + Clone>(adj_out: &AdjOut<A>, prefix: Prefix, octets: &Octets) -> bool
+fn is_new_to<A: Allocator + Clone, B: Book<A>>(
+    adj_out: &AdjOut<'_, A, B>,
+    prefix: Prefix,
+    octets: &Octets,
+) -> bool
     ensures yes { OnTrue result ((l : Linked) → l.adj_out ≡ adj_out.now → IsNewTo l prefix (Some octets.now.items)) }
     ensures no { OnFalse result ((l : Linked) → l.adj_out ≡ adj_out.now → IsNewTo l prefix (Some octets.now.items) → ⊥) }
 {

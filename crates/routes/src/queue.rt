@@ -127,7 +127,6 @@ impl<A: Allocator + Clone, B: Book<A>> Routes<A, B> {
             least,
             slot,
             &mut self.recent,
-            &mut self.undo,
             draft.named.as_slice(),
             octets,
             &mut draft.message,

@@ -29,10 +29,10 @@ use bgp_conf::Conf;
 use bgp_peer::Peer;
 use decision::Book;
 use export_rules::ExportPeer;
-use loc_rib::{Rows, SlotRoutes};
+use loc_rib::{AdjOut, Rows, SlotRoutes};
 use net_prefix::{Asn, Prefix};
 use origin_valid::PayloadTrie;
-use rib_out::{AdjOut, RecentRewrite, UndoLog};
+use rib_out::RecentRewrite;
 use routing::{
     Links, Octets, Routing, WaitingPrefixes, choose_touched, export, export_peer, slots_end,
 };
@@ -51,8 +51,6 @@ pub struct Routes<A: Allocator + Clone, B: Book<A>> {
     pub(crate) routing: Routing<A, B>,
     // How attributes were changed last for a peer, for the next to share.
     pub(crate) recent: RecentRewrite<A>,
-    // What an UPDATE changes of what a peer holds, until it is told whole.
-    pub(crate) undo: UndoLog<A>,
 }
 
 impl<A: Allocator + Clone, B: Book<A>> Model for Routes<A, B> {
@@ -108,7 +106,6 @@ impl<A: Allocator + Clone + Copy, B: Book<A>> Routes<A, B> {
             links: BTreeMap::new(alloc),
             routing,
             recent: RecentRewrite::new(alloc),
-            undo: UndoLog::new(alloc),
         }
     }
 }
@@ -129,8 +126,8 @@ impl<A: Allocator + Clone, B: Book<A>> Routes<A, B> {
     }
 
     /// What the peer of a slot holds, if the slot is there.
-    pub fn adj_out(&self, slot: u8) -> Option<&AdjOut<A>>
-        ensures value { option_copied result ≡ option_map (λ l. l.adj_out) (link_at self.now.links slot) }
+    pub fn adj_out(&self, slot: u8) -> Option<AdjOut<'_, A, B>>
+        ensures value { result ≡ option_map (λ l. l.adj_out) (link_at self.now.links slot) }
     {
         let _peer = self.links.get(&slot)?;
         Some(self.routing.held(slot))

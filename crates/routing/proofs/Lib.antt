@@ -18,7 +18,6 @@ pub mod Places
 pub mod RemadeOffers
 pub mod Results
 pub mod RouteChanges
-pub mod SentLists
 pub mod SoundOffers
 pub mod Stretching
 pub mod Taken

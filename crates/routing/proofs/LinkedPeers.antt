@@ -11,7 +11,8 @@ use Rattle.rib_out.specs.Held.{HeldRoute}
 use Rattle.routing.specs.Linked.{Linked}
 use Rattle.routing.specs.Marks.{AreFew, AreMarked, AreMarkedFor}
 use Rattle.routing.specs.RoutingState.{RoutingState}
-use Rattle.routing.specs.Sent.{SentTable, linked, linked_as, peer_in, sent_to}
+use Rattle.loc_rib.specs.SentTables.{SentTable, sent_to}
+use Rattle.routing.specs.Sent.{linked, linked_as, peer_in}
 use Rattle.routing.specs.Tables.{link_at}
 use Rattle.routing.proofs.Marking.{KeepsTables}
 

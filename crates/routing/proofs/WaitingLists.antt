@@ -34,6 +34,13 @@ pub nothing_rises : IsStrictlySortedBy prefix_cmp []
 unfolding IsStrictlySortedBy
 nothing_rises = tt
 
+-- an Established peer waits for the known prefixes that differ
+pub waiting_of : (conf : Configuration) (loc_rib : List (Prefix × Candidate)) (adj_in : RouteTable) (asked : Option ExportPeer) (peer : ExportPeer) (found : Option Linked) (l : Linked) → asked ≡ Some peer → found ≡ Some l → l.peer.session.state ≡ Established
+    → waiting_at conf loc_rib adj_in asked found ≡ differing l.adj_out (export_in conf (best_at loc_rib) adj_in peer) (known_prefixes loc_rib l.adj_out)
+waiting_of conf loc_rib adj_in asked peer found l is there up =
+    ap (λ a. waiting_at conf loc_rib adj_in a found) is ∙ ap (waiting_at conf loc_rib adj_in (Some peer)) there
+    ∙ ap (λ s. if_established s (differing l.adj_out (export_in conf (best_at loc_rib) adj_in peer) (known_prefixes loc_rib l.adj_out))) up
+
 pub differing_rises : (held : List (Prefix × HeldRoute)) (export : Prefix → Option (List ℕ)) (prefixes : List Prefix) → IsStrictlySortedBy prefix_cmp prefixes → IsStrictlySortedBy prefix_cmp (differing held export prefixes)
 differing_rises held export prefixes rises = IsStrictlySortedBy-filter prefix_cmp (λ prefix. not (is_same (held_at held prefix) (export prefix)) || asked_at held prefix) prefixes rises
 

@@ -6,7 +6,7 @@ use Rattle.net_prefix.specs.declared.prefix.Prefix.{Prefix}
 use Rattle.rib_in.specs.LatestRoutes.{RouteTable, route_at}
 use Rattle.rib_out.specs.Alike.{AlikeState}
 use Rattle.rib_out.specs.Waiting.{WaitingState}
-use Rattle.routing.specs.Sent.{SentTable}
+use Rattle.loc_rib.specs.SentTables.{SentTable}
 
 -- Adj-RIB-In, the candidates that are kept with Loc-RIB, how often a best route was chosen so far (a count that stays at 2^64 - 1
 -- where it has reached it), what each peer holds, what waits for each slot, and what is listed of it by the octets that are written
@@ -18,9 +18,9 @@ pub record RoutingState : Type 0 where
   pub waiting : WaitingState
   pub alike : AlikeState
 
--- these routes, with this of what is held, of what waits and of what is listed
-abbrev pub with_waiting : RibTables → SentTable → WaitingState → AlikeState → RoutingState
-with_waiting ribs sent waiting alike = record { adj_in = ribs.adj_in; book = ribs.book; chosen = ribs.chosen; sent = sent; waiting = waiting; alike = alike }
+-- these routes and what is held of them, with this of what waits and of what is listed
+abbrev pub with_waiting : RibTables → WaitingState → AlikeState → RoutingState
+with_waiting ribs waiting alike = record { adj_in = ribs.adj_in; book = ribs.book; chosen = ribs.chosen; sent = ribs.sent; waiting = waiting; alike = alike }
 
 -- no routes, with this of what is held, of what waits and of what is listed
 abbrev pub started : SentTable → WaitingState → AlikeState → RoutingState

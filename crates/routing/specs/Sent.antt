@@ -1,20 +1,11 @@
--- What the peers hold: Adj-RIB-Out of each slot (RFC 4271 section 3.2).
-use Rattle.std.specs.Prelude.{ℕ, List, [], ◌∷◌, Option, get_or}
+-- The peers with what they hold.
+use Rattle.std.specs.Prelude.{ℕ, List, [], ◌∷◌, Option}
 use Rattle.std.specs.BTreeMap.{is_at}
 use Rattle.std.specs.Map.{lookup}
 use Rattle.std.specs.Ordering.{nat_cmp}
 use Rattle.bgp_peer.specs.Slot.{Slot}
-use Rattle.net_prefix.specs.declared.prefix.Prefix.{Prefix}
-use Rattle.rib_out.specs.Held.{HeldRoute}
+use Rattle.loc_rib.specs.SentTables.{SentTable, sent_to}
 use Rattle.routing.specs.Linked.{Linked}
-
--- what the peer of each slot holds
-abbrev pub SentTable : Type 0
-SentTable = List (List (Prefix × HeldRoute))
-
--- what the peer of this slot holds; nothing, where there is no such slot
-abbrev pub sent_to : SentTable → ℕ → List (Prefix × HeldRoute)
-sent_to sent slot = get_or sent slot []
 
 -- the peer of this slot
 abbrev pub peer_in : List (ℕ × Slot) → ℕ → Option Slot

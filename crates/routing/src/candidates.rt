@@ -13,7 +13,8 @@ ghost use Rattle.origin_valid.specs.Stretches.{changed_prefixes, prefixes_of, st
 ghost use Rattle.prefix_trie.specs.CoverWalks.{covers};
 ghost use Rattle.routing.specs.Chosen.{AreDifferent, OncePerPrefix};
 ghost use Rattle.routing.specs.MarksIn.{AreMarkedIn};
-ghost use Rattle.routing.specs.Sent.{SentTable, linked};
+ghost use Rattle.loc_rib.specs.SentTables.{SentTable};
+ghost use Rattle.routing.specs.Sent.{linked};
 ghost use Rattle.routing.specs.Offers.{AreMadeAgain, AreMadeAt, AreMadeWhere, AreRemade, IsNextWithin, IsRemade, IsSound, LacksRoute, is_within};
 
 use crate::exports::place;

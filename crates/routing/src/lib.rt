@@ -1,8 +1,8 @@
 //! The tables that routes go through: what came from the peers, the best of it, and what each peer is owed of that.
 //!
-//! **Parts.** `Routing` has Adj-RIB-In with Loc-RIB (RFC 4271 section 3.2), what each peer was sent (`SentTables`), and of
-//! each prefix what waits for each Established peer: a withdrawal, an announcement or nothing; announcements are listed by
-//! the octets that are written, so that those of one UPDATE are found soon. The sessions stand beside it, as `Links`.
+//! **Parts.** `Routing` has Adj-RIB-In with Loc-RIB and what each peer was sent (RFC 4271 section 3.2), and of each prefix
+//! what waits for each Established peer: a withdrawal, an announcement or nothing; announcements are listed by the octets
+//! that are written, so that those of one UPDATE are found soon. The sessions stand beside it, as `Links`.
 //!
 //! **The way of a route.** A message at the front of a slot's rest is an input to its session, and an UPDATE among them
 //! brings and withdraws routes (`take_front`): room is made for all that it announces, or nothing is taken. A route makes a
@@ -23,7 +23,6 @@ mod candidates;
 mod exports;
 mod message;
 mod routing;
-mod sent;
 mod told;
 mod updates;
 mod waiting;
@@ -35,7 +34,6 @@ pub use candidates::{
 pub use exports::{Octets, export, export_peer, place};
 pub use message::{Standard, take_front};
 pub use routing::{Links, Routing, slots_end};
-pub use sent::SentTables;
 pub use told::{announce, withdraw};
 pub use updates::Sender;
 pub use waiting::WaitingPrefixes;

@@ -19,22 +19,22 @@ ghost use Rattle.routing.specs.Linked.{Linked, adj_out_after};
 ghost use Rattle.rib_out.specs.declared.marks.Owed.{Owed as TheOwed};
 ghost use Rattle.routing.specs.Marks.{IsMarked, IsMarkedSo, IsNextOf, lesser, mark_of};
 ghost use Rattle.routing.specs.MarksIn.{AreFewIn, AreMarkedButIn, AreMarkedForIn, AreMarkedIn, IsNextMarkedIn, IsNextOwedIn, IsUnmarkedIn, mark_in};
-ghost use Rattle.routing.specs.Sent.{linked, peer_in, sent_to};
+ghost use Rattle.loc_rib.specs.SentTables.{sent_to};
+ghost use Rattle.routing.specs.Sent.{linked, peer_in};
 ghost use Rattle.bgp_peer.specs.Slot.{Slot};
 ghost use Rattle.routing.specs.RoutingState.{started, with_waiting};
 ghost use Rattle.routing.specs.Export.{chosen_in};
 ghost use Rattle.routing.specs.Tables.{best_at, link_at};
 
 use crate::exports::{Chosen, Octets, chosen_route, export, export_chosen, export_peer, place};
-use crate::sent::SentTables;
 use bgp_attr::Attrs;
 use bgp_conf::Conf;
 use bgp_fsm::{Effects, State};
 use bgp_peer::Peer;
 use decision::{Book, Candidate, Change};
-use loc_rib::Ribs;
+use loc_rib::{AdjOut, Ribs};
 use net_prefix::Prefix;
-use rib_out::{AdjOut, AlikePrefixes, Owed, Waiting};
+use rib_out::{AlikePrefixes, Owed, Waiting};
 use std::alloc::{AllocError, Allocator};
 use std::collections::BTreeMap;
 use std::marker::Model;
@@ -49,7 +49,6 @@ pub type Links<A> = BTreeMap<u8, Peer<A>, A>;
 #[derive(Drop)]
 pub struct Routing<A: Allocator + Clone, B: Book<A>> {
     pub(crate) ribs: Ribs<A, B>,
-    pub(crate) sent: SentTables<A>,
     waiting: Waiting<A>,
     alike: AlikePrefixes<A>,
 }
@@ -59,7 +58,7 @@ impl<A: Allocator + Clone, B: Book<A>> Model for Routing<A, B> {
 
     ghost Value = { RoutingState };
 
-    ghost view = { λ t. record { adj_in = t.ribs.adj_in; book = t.ribs.book; chosen = t.ribs.chosen; sent = t.sent; waiting = t.waiting; alike = t.alike } };
+    ghost view = { λ t. record { adj_in = t.ribs.adj_in; book = t.ribs.book; chosen = t.ribs.chosen; sent = t.ribs.sent; waiting = t.waiting; alike = t.alike } };
 }
 
 impl<A: Allocator + Clone, B: Book<A>> Routing<A, B> {
@@ -73,11 +72,9 @@ impl<A: Allocator + Clone, B: Book<A>> Routing<A, B> {
     {
         let waiting = Waiting::new(alloc.clone()?)?;
         let alike = AlikePrefixes::new(alloc.clone()?);
-        let sent = SentTables::new(alloc.clone()?)?;
         let ribs = Ribs::new(alloc)?;
         Ok(Routing {
             ribs,
-            sent,
             waiting,
             alike,
         })
@@ -203,11 +200,11 @@ impl<A: Allocator + Clone, B: Book<A>> Routing<A, B> {
     }
 
     /// What the slot's peer holds.
-    pub fn held(&self, slot: u8) -> &AdjOut<A>
+    pub fn held(&self, slot: u8) -> AdjOut<'_, A, B>
         requires { slot < 64 }
-        ensures { result.now ≡ sent_to self.now.sent slot }
+        ensures { result ≡ sent_to self.now.sent slot }
     {
-        self.sent.of(slot)
+        self.ribs.adj_out(slot)
     }
 
     /// The slot's peer holds nothing.
@@ -215,7 +212,7 @@ impl<A: Allocator + Clone, B: Book<A>> Routing<A, B> {
         ensures sent { (s : ℕ) → sent_to self.new.sent s ≡ (if s == slot then [] else sent_to self.old.sent s) }
         ensures rest { self.new ≡ record self.old { sent = self.new.sent } }
     {
-        self.sent.clear(slot);
+        self.ribs.clear_sent(slot);
     }
 
     /// The slot's session has taken an input with these effects: entering Established begins with nothing sent, and leaving
@@ -225,7 +222,11 @@ impl<A: Allocator + Clone, B: Book<A>> Routing<A, B> {
         ensures sent { (s : ℕ) → sent_to self.new.sent s ≡ (if s == slot then adj_out_after effects.now (sent_to self.old.sent s) else sent_to self.old.sent s) }
         ensures rest { self.new ≡ record self.old { sent = self.new.sent } }
     {
-        self.sent.follow(slot, effects);
+        if effects.left || effects.entered {
+            self.ribs.clear_sent(slot);
+        } else if effects.refreshed {
+            self.ribs.ask_sent(slot);
+        }
     }
 
     /// Nothing waits for the slot.
@@ -371,17 +372,17 @@ impl<A: Allocator + Clone, B: Book<A>> Routing<A, B> {
         ensures { IsNextOwedIn conf.now links.now.entries self.now slot wanted after result }
     {
         let peer = links.get(&slot)?;
-        let adj_out = self.sent.of(slot);
+        let adj_out = self.ribs.adj_out(slot);
         let mut octets = Octets::new();
         let mut last = after;
-        while let Some(prefix) = self.possible(adj_out, last) {
+        while let Some(prefix) = self.possible(&adj_out, last) {
             let chosen = chosen_route(&self.ribs, prefix);
             let due = owed(
                 conf,
                 chosen.as_ref(),
                 slot,
                 peer,
-                adj_out,
+                &adj_out,
                 prefix,
                 &mut octets,
             );
@@ -396,7 +397,7 @@ impl<A: Allocator + Clone, B: Book<A>> Routing<A, B> {
     }
 
     // The least prefix above the given one, or of all, that has a best route or is held.
-    fn possible(&self, adj_out: &AdjOut<A>, after: Option<Prefix>) -> Option<Prefix>
+    fn possible(&self, adj_out: &AdjOut<'_, A, B>, after: Option<Prefix>) -> Option<Prefix>
         ensures { IsNextOf (λ q. IsSome (best_at (rows_of self.now.book) q) ⊎ IsSome (held_at adj_out.now q)) after result }
     {
         lesser(self.ribs.prefix_after(after), adj_out.prefix_after(after))
@@ -458,9 +459,9 @@ impl<A: Allocator + Clone, B: Book<A>> Routing<A, B> {
         }
     }
 
-    /// Adj-RIB-In with Loc-RIB.
+    /// Adj-RIB-In with Loc-RIB, and what each peer was sent.
     pub fn ribs(&self) -> &Ribs<A, B>
-        ensures { result.now ≡ record { adj_in = self.now.adj_in; book = self.now.book; chosen = self.now.chosen } }
+        ensures { result.now ≡ record { adj_in = self.now.adj_in; book = self.now.book; chosen = self.now.chosen; sent = self.now.sent } }
     {
         &self.ribs
     }
@@ -508,7 +509,6 @@ impl<A: Allocator + Clone, B: Book<A>> Routing<A, B> {
     {
         mark_each(
             &self.ribs,
-            &self.sent,
             &mut self.waiting,
             &mut self.alike,
             conf,
@@ -537,7 +537,7 @@ impl<A: Allocator + Clone, B: Book<A>> Routing<A, B> {
             &mut self.alike,
             conf,
             links,
-            &self.sent,
+            &self.ribs,
             slot,
             prefix,
             chosen.as_ref(),
@@ -563,15 +563,14 @@ pub fn slots_end<A: Allocator + Clone>(links: &Links<A>) -> u8
 // What the prefix's routes and its best one make wait for each peer.
 fn mark_each<A: Allocator + Clone, B: Book<A>>(
     ribs: &Ribs<A, B>,
-    sent: &SentTables<A>,
     waiting: &mut Waiting<A>,
     alike: &mut AlikePrefixes<A>,
     conf: &Conf<A>,
     links: &Links<A>,
     prefix: Prefix,
 )
-    requires { AreMarkedButIn prefix conf.now links.now.entries (with_waiting ribs.now sent.now waiting.old alike.old) }
-    ensures { AreMarkedIn conf.now links.now.entries (with_waiting ribs.now sent.now waiting.new alike.new) }
+    requires { AreMarkedButIn prefix conf.now links.now.entries (with_waiting ribs.now waiting.old alike.old) }
+    ensures { AreMarkedIn conf.now links.now.entries (with_waiting ribs.now waiting.new alike.new) }
 {
     let mut octets = Octets::new();
     let chosen = chosen_route(ribs, prefix);
@@ -580,7 +579,7 @@ fn mark_each<A: Allocator + Clone, B: Book<A>>(
             alike,
             conf,
             links,
-            sent,
+            ribs,
             slot,
             prefix,
             chosen.as_ref(),
@@ -591,11 +590,11 @@ fn mark_each<A: Allocator + Clone, B: Book<A>>(
 }
 
 // What of the prefix, with this best route, is owed to the slot's peer, where there is one. What is to be announced is listed.
-fn list<A: Allocator + Clone>(
+fn list<A: Allocator + Clone, B: Book<A>>(
     alike: &mut AlikePrefixes<A>,
     conf: &Conf<A>,
     links: &Links<A>,
-    sent: &SentTables<A>,
+    ribs: &Ribs<A, B>,
     slot: u8,
     prefix: Prefix,
     chosen: Option<&Chosen<'_, A>>,
@@ -603,13 +602,14 @@ fn list<A: Allocator + Clone>(
 ) -> Option<Owed>
     requires { slot < 64 }
     ensures owed { (adj_in : RouteTable) (book : BookState) → option_copied chosen.entry ≡ chosen_in (best_at (rows_of book)) adj_in prefix
-        → result ≡ (mark_of conf.now adj_in book slot prefix (peer_at conf.now slot) (link_at (linked links.now.entries sent.now) slot)).owed }
+        → result ≡ (mark_of conf.now adj_in book slot prefix (peer_at conf.now slot) (link_at (linked links.now.entries ribs.now.sent) slot)).owed }
     ensures here { (adj_in : RouteTable) (book : BookState) → option_copied chosen.entry ≡ chosen_in (best_at (rows_of book)) adj_in prefix
-        → result ≡ Some Announcement → IsListed alike.new slot (mark_of conf.now adj_in book slot prefix (peer_at conf.now slot) (link_at (linked links.now.entries sent.now) slot)).octets prefix }
+        → result ≡ Some Announcement → IsListed alike.new slot (mark_of conf.now adj_in book slot prefix (peer_at conf.now slot) (link_at (linked links.now.entries ribs.now.sent) slot)).octets prefix }
     ensures listed { (s : ℕ) (o : List ℕ) (p : ThePrefix) → IsListed alike.old s o p → IsListed alike.new s o p }
 {
     let peer = links.get(&slot)?;
-    let owed = owed(conf, chosen, slot, peer, sent.of(slot), prefix, octets);
+    let adj_out = ribs.adj_out(slot);
+    let owed = owed(conf, chosen, slot, peer, &adj_out, prefix, octets);
     if owed == Some(Owed::Announcement) {
         alike.list(slot, octets.as_slice(), prefix);
     }
@@ -618,12 +618,12 @@ fn list<A: Allocator + Clone>(
 
 // What of the prefix, with this best route, is owed to the slot's peer: nothing, where its session isn't Established. Where it
 // is to be announced, `octets` are what is exported.
-fn owed<A: Allocator + Clone>(
+fn owed<A: Allocator + Clone, B: Book<A>>(
     conf: &Conf<A>,
     chosen: Option<&Chosen<'_, A>>,
     slot: u8,
     peer: &Peer<A>,
-    adj_out: &AdjOut<A>,
+    adj_out: &AdjOut<'_, A, B>,
     prefix: Prefix,
     octets: &mut Octets,
 ) -> Option<Owed>

@@ -9,20 +9,21 @@ ghost use Rattle.decision.specs.BookContents.{rows_of};
 ghost use Rattle.routing.specs.Export.{export_in};
 ghost use Rattle.routing.specs.Packing.{IsNewTo, most_named};
 ghost use Rattle.routing.specs.Places.{rank_of};
-ghost use Rattle.routing.specs.Sent.{linked_as, sent_to};
+ghost use Rattle.loc_rib.specs.SentTables.{sent_to};
+ghost use Rattle.routing.specs.Sent.{linked_as};
 ghost use Rattle.routing.specs.Tables.{best_at};
 ghost use Rattle.routing.specs.Told.{HasRoom, IsTold, update_saying};
 
-use crate::exports::{ExportedRoute, Octets, exported_route};
+use crate::exports::{Octets, exported_route};
 use crate::routing::Routing;
-use crate::sent::SentTables;
 use bgp_conf::Conf;
 use bgp_msg::{write_announcement, write_withdrawal};
 use bgp_peer::Peer;
 use decision::Book;
 use export_rules::ExportPeer;
+use loc_rib::{AdjOut, Ribs};
 use net_prefix::Prefix;
-use rib_out::{AdjOut, RecentRewrite, UndoLog};
+use rib_out::RecentRewrite;
 use std::alloc::{AllocError, Allocator};
 
 /// Tells an Established peer that these prefixes are withdrawn: an UPDATE of it is queued, and the peer doesn't hold them
@@ -44,7 +45,7 @@ pub fn withdraw<A: Allocator + Clone, B: Book<A>>(
     ensures rest { routing.new ≡ record routing.old { sent = routing.new.sent } }
     ensures message { message.new.items ≡ update_saying named.now None }
 {
-    routing.sent.withdraw_all(slot, named);
+    routing.ribs.withdraw_sent(slot, named);
     write_withdrawal(named, message);
     peer.queue(message.as_slice());
 }
@@ -59,7 +60,6 @@ pub fn announce<A: Allocator + Clone, B: Book<A>>(
     least: Prefix,
     slot: u8,
     recent: &mut RecentRewrite<A>,
-    undo: &mut UndoLog<A>,
     named: &[Prefix],
     octets: &Octets,
     message: &mut Octets,
@@ -78,16 +78,14 @@ pub fn announce<A: Allocator + Clone, B: Book<A>>(
     ensures err { OnErr result ((peer.new ≡ peer.old) × ((s : ℕ) → sent_to routing.new.sent s ≡ sent_to routing.old.sent s)) }
     ensures others { OnErr result ((q : ThePrefix) × (is_among q named.now ≡ true) × (held_at (sent_to routing.old.sent slot) q ≢ Some octets.now.items)) }
 {
-    let Some(exported) = exported_route(conf, &routing.ribs, to, least) else {
-        return Ok(());
-    };
     hold(
-        &mut routing.sent,
+        &mut routing.ribs,
+        conf,
+        to,
+        least,
         slot,
         recent,
-        undo,
         named,
-        &exported,
         octets,
     )?;
     write_announcement(octets.as_slice(), named, message);
@@ -96,35 +94,44 @@ pub fn announce<A: Allocator + Clone, B: Book<A>>(
 }
 
 // The slot's peer holds these octets of all these prefixes, and has asked for none of them again.
-fn hold<A: Allocator + Clone>(
-    sent: &mut SentTables<A>,
+fn hold<A: Allocator + Clone, B: Book<A>>(
+    ribs: &mut Ribs<A, B>,
+    conf: &Conf<A>,
+    to: &ExportPeer,
+    least: Prefix,
     slot: u8,
     recent: &mut RecentRewrite<A>,
-    undo: &mut UndoLog<A>,
     named: &[Prefix],
-    exported: &ExportedRoute<'_, A>,
     octets: &Octets,
 ) -> Result<(), AllocError>
     requires slot { slot < 64 }
-    requires exported { exported.now ≡ Some octets.now.items }
-    requires news { (q : ThePrefix) × (is_among q named.now ≡ true) × ((held_at (sent_to sent.old slot) q ≢ Some octets.now.items) ⊎ (asked_at (sent_to sent.old slot) q ≡ true)) }
-    ensures held { OnOk result ((q : ThePrefix) → held_at (sent_to sent.new slot) q ≡ (if is_among q named.now then Some octets.now.items else held_at (sent_to sent.old slot) q)) }
-    ensures asked { OnOk result ((q : ThePrefix) → asked_at (sent_to sent.new slot) q ≡ (if is_among q named.now then false else asked_at (sent_to sent.old slot) q)) }
-    ensures apart { (s : ℕ) → s ≢ slot → sent_to sent.new s ≡ sent_to sent.old s }
-    ensures err { OnErr result ((s : ℕ) → sent_to sent.new s ≡ sent_to sent.old s) }
-    ensures others { OnErr result ((q : ThePrefix) × (is_among q named.now ≡ true) × (held_at (sent_to sent.old slot) q ≢ Some octets.now.items)) }
+    requires exported { export_in conf.now (best_at (rows_of ribs.old.book)) ribs.old.adj_in to.now least ≡ Some octets.now.items }
+    requires news { (q : ThePrefix) × (is_among q named.now ≡ true) × ((held_at (sent_to ribs.old.sent slot) q ≢ Some octets.now.items) ⊎ (asked_at (sent_to ribs.old.sent slot) q ≡ true)) }
+    ensures held { OnOk result ((q : ThePrefix) → held_at (sent_to ribs.new.sent slot) q ≡ (if is_among q named.now then Some octets.now.items else held_at (sent_to ribs.old.sent slot) q)) }
+    ensures asked { OnOk result ((q : ThePrefix) → asked_at (sent_to ribs.new.sent slot) q ≡ (if is_among q named.now then false else asked_at (sent_to ribs.old.sent slot) q)) }
+    ensures apart { (s : ℕ) → s ≢ slot → sent_to ribs.new.sent s ≡ sent_to ribs.old.sent s }
+    ensures rest { ribs.new ≡ record ribs.old { sent = ribs.new.sent } }
+    ensures err { OnErr result ((s : ℕ) → sent_to ribs.new.sent s ≡ sent_to ribs.old.sent s) }
+    ensures others { OnErr result ((q : ThePrefix) × (is_among q named.now ≡ true) × (held_at (sent_to ribs.old.sent slot) q ≢ Some octets.now.items)) }
 {
-    if is_renewal(sent.of(slot), named, octets) {
-        sent.renew_all(slot, named);
+    if is_renewal(&ribs.adj_out(slot), named, octets) {
+        ribs.renew_sent(slot, named);
         return Ok(());
     }
+    let Some(exported) = exported_route(conf, ribs, to, least) else {
+        return Ok(());
+    };
     let attrs = recent.sent(exported.attrs, exported.rewrite)?;
-    sent.announce_all(slot, named, &attrs, undo)
+    ribs.announce_sent(slot, named, &attrs)
 }
 
 // Whether the peer holds just these octets of all these prefixes, one of which is new to it or was asked for again. Where
 // none was asked for, nothing is looked up.
-fn is_renewal<A: Allocator + Clone>(adj_out: &AdjOut<A>, named: &[Prefix], octets: &Octets) -> bool
+fn is_renewal<A: Allocator + Clone, B: Book<A>>(
+    adj_out: &AdjOut<'_, A, B>,
+    named: &[Prefix],
+    octets: &Octets,
+) -> bool
     requires { (q : ThePrefix) × (is_among q named.now ≡ true) × ((held_at adj_out.now q ≢ Some octets.now.items) ⊎ (asked_at adj_out.now q ≡ true)) }
     ensures all { OnTrue result ((q : ThePrefix) → is_among q named.now ≡ true → held_at adj_out.now q ≡ Some octets.now.items) }
     ensures one { OnFalse result ((q : ThePrefix) × (is_among q named.now ≡ true) × (held_at adj_out.now q ≢ Some octets.now.items)) }
@@ -136,7 +143,11 @@ fn is_renewal<A: Allocator + Clone>(adj_out: &AdjOut<A>, named: &[Prefix], octet
 }
 
 // Whether the peer holds just these octets of all these prefixes.
-fn holds_all<A: Allocator + Clone>(adj_out: &AdjOut<A>, named: &[Prefix], octets: &Octets) -> bool
+fn holds_all<A: Allocator + Clone, B: Book<A>>(
+    adj_out: &AdjOut<'_, A, B>,
+    named: &[Prefix],
+    octets: &Octets,
+) -> bool
     ensures all { OnTrue result ((q : ThePrefix) → is_among q named.now ≡ true → held_at adj_out.now q ≡ Some octets.now.items) }
     ensures one { OnFalse result ((q : ThePrefix) × (is_among q named.now ≡ true) × (held_at adj_out.now q ≢ Some octets.now.items)) }
 {

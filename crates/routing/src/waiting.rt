@@ -19,9 +19,8 @@ use bgp_fsm::State;
 use bgp_peer::Peer;
 use decision::{Book, PlainBook};
 use export_rules::ExportPeer;
-use loc_rib::{Ribs, Rows};
+use loc_rib::{AdjOut, HeldRoutes, Ribs, Rows};
 use net_prefix::Prefix;
-use rib_out::{AdjOut, HeldRoutes};
 use std::alloc::{Allocator, Global};
 use std::cmp::Ordering;
 use std::marker::Model;
@@ -101,7 +100,7 @@ impl<A: Allocator + Clone, B: Book<A>> Iterator for WaitingPrefixes<'_, A, B> {
 struct Waiting<'a, A: Allocator + Clone, B: Book<A>> {
     conf: &'a Conf<A>,
     ribs: &'a Ribs<A, B>,
-    adj_out: &'a AdjOut<A>,
+    adj_out: AdjOut<'a, A, B>,
     peer: ExportPeer,
     known: KnownPrefixes<'a, A, B>,
 }
@@ -116,7 +115,7 @@ impl<'a, A: Allocator + Clone, B: Book<A>> Model for Waiting<'a, A, B> {
 
     ghost Value = { List Prefix };
 
-    ghost view = { λ w. differing w.adj_out.now (export_in w.conf.now (best_at (rows_of w.ribs.now.book)) w.ribs.now.adj_in w.peer) w.known };
+    ghost view = { λ w. differing w.adj_out (export_in w.conf.now (best_at (rows_of w.ribs.now.book)) w.ribs.now.adj_in w.peer) w.known };
 }
 
 impl<'a, A: Allocator + Clone, B: Book<A>> Waiting<'a, A, B> {
@@ -124,18 +123,19 @@ impl<'a, A: Allocator + Clone, B: Book<A>> Waiting<'a, A, B> {
     fn new(
         conf: &'a Conf<A>,
         ribs: &'a Ribs<A, B>,
-        adj_out: &'a AdjOut<A>,
+        adj_out: AdjOut<'a, A, B>,
         peer: ExportPeer,
     ) -> Self
-        ensures waiting { result ≡ differing adj_out.now (export_in conf.now (best_at (rows_of ribs.now.book)) ribs.now.adj_in peer) (known_prefixes (rows_of ribs.now.book) adj_out.now) }
+        ensures waiting { result ≡ differing adj_out.entry (export_in conf.now (best_at (rows_of ribs.now.book)) ribs.now.adj_in peer) (known_prefixes (rows_of ribs.now.book) adj_out.entry) }
         ensures rising { IsStrictlySortedBy prefix_cmp result }
     {
+        let known = KnownPrefixes::new(ribs, &adj_out);
         Waiting {
             conf,
             ribs,
             adj_out,
             peer,
-            known: KnownPrefixes::new(ribs, adj_out),
+            known,
         }
     }
 }
@@ -153,7 +153,7 @@ impl<A: Allocator + Clone, B: Book<A>> Iterator for Waiting<'_, A, B> {
             if is_waiting(
                 self.conf,
                 self.ribs,
-                self.adj_out,
+                &self.adj_out,
                 &self.peer,
                 prefix,
                 &mut octets,
@@ -169,7 +169,7 @@ impl<A: Allocator + Clone, B: Book<A>> Iterator for Waiting<'_, A, B> {
 fn is_waiting<A: Allocator + Clone, B: Book<A>>(
     conf: &Conf<A>,
     ribs: &Ribs<A, B>,
-    adj_out: &AdjOut<A>,
+    adj_out: &AdjOut<'_, A, B>,
     peer: &ExportPeer,
     prefix: Prefix,
     octets: &mut Octets,
@@ -190,7 +190,7 @@ struct KnownPrefixes<'a, A: Allocator + Clone, B: Book<A>> {
     best: Option<Prefix>,
     later_best: Rows<'a, A, B>,
     held: Option<Prefix>,
-    later_held: HeldRoutes<'a, A>,
+    later_held: HeldRoutes<'a, A, B>,
 }
 
 impl<'a, A: Allocator + Clone, B: Book<A>> Model for KnownPrefixes<'a, A, B> {
@@ -207,7 +207,7 @@ impl<'a, A: Allocator + Clone, B: Book<A>> Model for KnownPrefixes<'a, A, B> {
 }
 
 impl<'a, A: Allocator + Clone, B: Book<A>> KnownPrefixes<'a, A, B> {
-    fn new(ribs: &'a Ribs<A, B>, adj_out: &'a AdjOut<A>) -> Self
+    fn new(ribs: &'a Ribs<A, B>, adj_out: &AdjOut<'a, A, B>) -> Self
         ensures all { result ≡ known_prefixes (rows_of ribs.now.book) adj_out.now }
         ensures rising { IsStrictlySortedBy prefix_cmp result }
     {
@@ -270,7 +270,7 @@ fn next_best<A: Allocator + Clone, B: Book<A>>(routes: &mut Rows<'_, A, B>) -> O
 }
 
 // The next prefix that the peer holds.
-fn next_held<A: Allocator>(routes: &mut HeldRoutes<'_, A>) -> Option<Prefix>
+fn next_held<A: Allocator + Clone, B: Book<A>>(routes: &mut HeldRoutes<'_, A, B>) -> Option<Prefix>
     ensures { keys_of routes.old ≡ first_of result (keys_of routes.new) }
 {
     match routes.next() {

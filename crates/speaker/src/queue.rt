@@ -29,6 +29,24 @@ use routing::{Octets, place};
 use runs::slot_bit;
 use std::alloc::{AllocError, Allocator};
 
+// Room in which an UPDATE is made. It is taken at the first that is owed, since to fill it costs more than to find that none is.
+#[derive(Drop)]
+struct Room {
+    // What is exported of the least prefix.
+    octets: Octets,
+    draft: Draft,
+}
+
+impl Room {
+    // Nothing is written yet.
+    fn new() -> Self {
+        Room {
+            octets: Octets::new(),
+            draft: Draft::new(),
+        }
+    }
+}
+
 impl<A: Allocator + Clone, B: Book<A>> Speaker<A, B> {
     /// Queues to each Established peer the UPDATEs that it is owed, while its ring has room. Where memory is refused to
     /// what a peer is owed, its session is closed; all peers are then served again, since its routes have gone. Answers
@@ -40,9 +58,8 @@ impl<A: Allocator + Clone, B: Book<A>> Speaker<A, B> {
         ensures rises { self.old.chosen ≤ self.new.chosen }
     {
         let mut starved = 0;
-        let mut octets = Octets::new();
-        let mut draft = Draft::new();
-        while let Some(slot) = self.pass(&mut octets, &mut draft) {
+        let mut room = None;
+        while let Some(slot) = self.pass(&mut room) {
             self.starve(slot);
             starved = slot_bit(slot) | starved;
         }
@@ -51,7 +68,7 @@ impl<A: Allocator + Clone, B: Book<A>> Speaker<A, B> {
 
     // For each Established slot in rising order, queues the UPDATEs that it is owed. Answers the first to which memory
     // is refused.
-    fn pass(&mut self, octets: &mut Octets, draft: &mut Draft) -> Option<u8>
+    fn pass(&mut self, room: &mut Option<Room>) -> Option<u8>
         ensures stand { Stand self.old self.new }
         ensures queues { QueuesOn self.old self.new }
         ensures served { IfNone result ((slot : ℕ) → slot < 64 → IsServedAt self.new slot) }
@@ -60,7 +77,7 @@ impl<A: Allocator + Clone, B: Book<A>> Speaker<A, B> {
         ensures rises { self.old.chosen ≤ self.new.chosen }
     {
         for slot in 0..self.routes.slots_end() {
-            if self.serve_slot(slot, octets, draft).is_err() {
+            if self.serve_slot(slot, room).is_err() {
                 return Some(slot);
             }
         }
@@ -81,12 +98,7 @@ impl<A: Allocator + Clone, B: Book<A>> Speaker<A, B> {
 
     // Queues what a slot's peer is owed, withdrawals before announcements and each in rising order, while its
     // ring has room for an UPDATE.
-    fn serve_slot(
-        &mut self,
-        slot: u8,
-        octets: &mut Octets,
-        draft: &mut Draft,
-    ) -> Result<(), AllocError>
+    fn serve_slot(&mut self, slot: u8, room: &mut Option<Room>) -> Result<(), AllocError>
         requires slot { slot < 64 }
         requires below { AreServedBelow self.old slot }
         ensures only { IsOfSlot slot self.old self.new }
@@ -96,7 +108,7 @@ impl<A: Allocator + Clone, B: Book<A>> Speaker<A, B> {
         ensures short { OnErr result (IsShortAt self.new slot) }
     {
         self.renew_queue(slot);
-        self.serve_in_order(slot, octets, draft)
+        self.serve_in_order(slot, room)
     }
 
     // What waits for the slot is kept in order again, if memory was refused to that and nothing is owed to its peer.
@@ -108,12 +120,7 @@ impl<A: Allocator + Clone, B: Book<A>> Speaker<A, B> {
     }
 
     // The same where what waits is kept in order if it can be.
-    fn serve_in_order(
-        &mut self,
-        slot: u8,
-        octets: &mut Octets,
-        draft: &mut Draft,
-    ) -> Result<(), AllocError>
+    fn serve_in_order(&mut self, slot: u8, room: &mut Option<Room>) -> Result<(), AllocError>
         requires slot { slot < 64 }
         requires below { AreServedBelow self.old slot }
         ensures only { IsOfSlot slot self.old self.new }
@@ -128,12 +135,12 @@ impl<A: Allocator + Clone, B: Book<A>> Speaker<A, B> {
         if !self.is_up(slot) {
             return Ok(());
         }
-        self.withdraw_all(slot, &peer, draft);
-        self.announce_all(slot, &peer, octets, draft)
+        self.withdraw_all(slot, &peer, room);
+        self.announce_all(slot, &peer, room)
     }
 
     // Withdraws what the peer holds and what isn't exported to it any more.
-    fn withdraw_all(&mut self, slot: u8, peer: &ExportPeer, draft: &mut Draft)
+    fn withdraw_all(&mut self, slot: u8, peer: &ExportPeer, room: &mut Option<Room>)
         requires slot { slot < 64 }
         requires peer { Some peer.now ≡ option_map (export_peer_of self.old.conf slot) (peer_at self.old.conf slot) }
         requires up { IsUpAt self.old slot }
@@ -146,6 +153,7 @@ impl<A: Allocator + Clone, B: Book<A>> Speaker<A, B> {
             if !self.has_room(slot) {
                 return;
             }
+            let Room { draft, .. } = room.get_or_insert_with(Room::new);
             self.withdraw_from(slot, prefix, draft);
             // Places rise, so the walk ends.
             let _place = place(prefix);
@@ -158,8 +166,7 @@ impl<A: Allocator + Clone, B: Book<A>> Speaker<A, B> {
         &mut self,
         slot: u8,
         peer: &ExportPeer,
-        octets: &mut Octets,
-        draft: &mut Draft,
+        room: &mut Option<Room>,
     ) -> Result<(), AllocError>
         requires slot { slot < 64 }
         requires peer { Some peer.now ≡ option_map (export_peer_of self.old.conf slot) (peer_at self.old.conf slot) }
@@ -175,6 +182,7 @@ impl<A: Allocator + Clone, B: Book<A>> Speaker<A, B> {
             if !self.has_room(slot) {
                 return Ok(());
             }
+            let Room { octets, draft } = room.get_or_insert_with(Room::new);
             if self.routes.export(peer, prefix, octets) {
                 self.announce_from(slot, peer, prefix, octets, draft)?;
             }

@@ -117,11 +117,11 @@ impl<'a, A: Allocator + Clone, B: Book<A>> Iterator for AdjRibIn<'a, A, B> {
 /// What a slot's peer was sent and was not taken back, in rising order: each prefix with its attributes as they were
 /// sent.
 #[derive(Drop)]
-pub struct HeldRoutes<'a, A: Allocator = Global> {
-    pub(crate) held: Option<rib_out::HeldRoutes<'a, A>>,
+pub struct HeldRoutes<'a, A: Allocator + Clone = Global, B: Book<A> = LiveBook<A>> {
+    pub(crate) held: Option<loc_rib::HeldRoutes<'a, A, B>>,
 }
 
-impl<'a, A: Allocator> Model for HeldRoutes<'a, A> {
+impl<'a, A: Allocator + Clone, B: Book<A>> Model for HeldRoutes<'a, A, B> {
     ghost use Rattle.std.specs.Prelude.{List, ℕ};
     ghost use Rattle.net_prefix.specs.declared.prefix.Prefix.{Prefix};
     ghost use Rattle.speaker.specs.Shown.{listed};
@@ -131,7 +131,7 @@ impl<'a, A: Allocator> Model for HeldRoutes<'a, A> {
     ghost view = { λ routes. listed routes.held };
 }
 
-impl<'a, A: Allocator> Iterator for HeldRoutes<'a, A> {
+impl<'a, A: Allocator + Clone, B: Book<A>> Iterator for HeldRoutes<'a, A, B> {
     type Item = (Prefix, &'a SentAttributes<A>);
 
     ghost next_gives = { YieldsFirstBy (λ item. (item.0, item.1.now)) (λ rest. rest) };
@@ -285,7 +285,7 @@ impl<A: Allocator + Clone, B: Book<A>> Speaker<A, B> {
     }
 
     /// What a slot's peer holds of what it was sent, in rising order; nothing where the slot isn't configured.
-    pub fn held(&self, slot: u8) -> HeldRoutes<'_, A>
+    pub fn held(&self, slot: u8) -> HeldRoutes<'_, A, B>
         // Each prefix once.
         ensures rising { IsStrictlySortedBy prefix_cmp (keys_of result) }
         ensures kept { result ≡ held_by (link_at self.now.links slot) }
@@ -294,7 +294,7 @@ impl<A: Allocator + Clone, B: Book<A>> Speaker<A, B> {
         self.held_rows(slot)
     }
 
-    fn held_rows(&self, slot: u8) -> HeldRoutes<'_, A>
+    fn held_rows(&self, slot: u8) -> HeldRoutes<'_, A, B>
         ensures all { result ≡ held_by (link_at self.now.links slot) }
         ensures rising { IsStrictlySortedBy prefix_cmp (keys_of result) }
     {

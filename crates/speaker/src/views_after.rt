@@ -49,7 +49,7 @@ impl<A: Allocator + Clone, B: Book<A>> Speaker<A, B> {
 
     /// What a slot's peer holds of what it was sent, of prefixes above the given one or of all, in rising order; nothing
     /// where the slot isn't configured.
-    pub fn held_after(&self, slot: u8, after: Option<Prefix>) -> HeldRoutes<'_, A>
+    pub fn held_after(&self, slot: u8, after: Option<Prefix>) -> HeldRoutes<'_, A, B>
         // Each prefix once.
         ensures rising { IsStrictlySortedBy prefix_cmp (keys_of result) }
         ensures kept { result ≡ all_after after (held_by (link_at self.now.links slot)) }

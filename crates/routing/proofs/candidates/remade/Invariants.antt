@@ -1,4 +1,5 @@
-use Rattle.routing.specs.Sent.{SentTable, linked}
+use Rattle.loc_rib.specs.SentTables.{SentTable}
+use Rattle.routing.specs.Sent.{linked}
 use Rattle.routing.specs.Tables.{payloads_under, tables}
 use Rattle.routing.proofs.RemadeOffers.{RemadeBelow}
 use Rattle.routing.proofs.candidates.remade.Given as goal

@@ -7,7 +7,7 @@ use Rattle.routing.proofs.Marking.{PeersBelow-all, PeersBelow-more, PeersBelow-n
 use Rattle.routing.proofs.routing.mark_each.Goals as goal
 
 pub slots_end-slot-end-requires : goal.slots_end-slot-end-requires
-slots_end-slot-end-requires g c = few_in c.args.links.now.entries c.args.sent.now c.requires.there
+slots_end-slot-end-requires g c = few_in c.args.links.now.entries c.args.ribs.now.sent c.requires.there
 
 pub loop-slot-init : goal.loop-slot-init
 loop-slot-init g c = PeersBelow-none _ _ _ _ c.requires
@@ -15,9 +15,9 @@ loop-slot-init g c = PeersBelow-none _ _ _ _ c.requires
 pub loop-slot-preserved : goal.loop-slot-preserved
 loop-slot-preserved g c =
     let ribs = c.args.ribs.now in
-    let links = linked c.args.links.now.entries c.args.sent.now in
-    let t = with_waiting ribs c.args.sent.now c.loop-slot.waiting c.loop-slot.alike in
-    let u = with_waiting ribs c.args.sent.now c.set.new.self c.list-owed.new.alike in
+    let links = linked c.args.links.now.entries c.args.ribs.now.sent in
+    let t = with_waiting ribs c.loop-slot.waiting c.loop-slot.alike in
+    let u = with_waiting ribs c.set.new.self c.list-owed.new.alike in
     let is = c.as_ref.ensures.value ∙ c.chosen_route-chosen.ensures in
     PeersBelow-more _ _ _ _ t u c.loop-slot.slot c.loop-slot.invariant (record {
       here =
@@ -29,4 +29,4 @@ loop-slot-preserved g c =
     })
 
 pub returns : goal.returns
-returns g c = PeersBelow-all _ _ _ _ _ c.loop-slot.slot (λ s high low. linked_none c.args.links.now.entries c.args.sent.now s (c.slots_end-slot-end.ensures.none s (omega (arith, c.loop-slot-test.false, high)) low)) c.loop-slot.invariant
+returns g c = PeersBelow-all _ _ _ _ _ c.loop-slot.slot (λ s high low. linked_none c.args.links.now.entries c.args.ribs.now.sent s (c.slots_end-slot-end.ensures.none s (omega (arith, c.loop-slot-test.false, high)) low)) c.loop-slot.invariant

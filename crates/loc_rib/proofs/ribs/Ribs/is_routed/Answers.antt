@@ -1,5 +1,19 @@
-use Rattle.loc_rib.proofs.RowFinds.{routed}
+use Rattle.std.proofs.Common.{◌≡◌, None, is_some, ap, sym, ◌∙◌}
+use Rattle.std.specs.Option.{option_copied}
+use Rattle.prefix_trie.specs.TrieMap.{found}
+use Rattle.rib_rows.specs.Records.{routed, row_of}
+use Rattle.rib_rows.proofs.RecordTables.{routed_found, rows_routed}
+use Rattle.loc_rib.proofs.RowFinds.{routed_is}
 use Rattle.loc_rib.proofs.ribs.Ribs.is_routed.Goals as goal
 
-pub returns : goal.returns
-returns g c = rw (← c.self.view_is) (routed c.self.inside.rows.entries c.self.invariant c.args.prefix c.get.result c.is_some.result c.get.ensures.value c.is_some.ensures)
+pub returns-in-Some : goal.returns-in-Some
+returns-in-Some g c =
+    let there : found (routed c.self.inside.rows.entries) c.args.prefix ≡ c.in-Some.record.now.row =
+    routed_found c.self.inside.rows.entries c.self.invariant.0.0 c.args.prefix ∙ ap row_of (sym c.get.ensures.value ∙ ap option_copied c.in-Some.is) in
+    rw (← c.self.view_is) (routed_is (routed c.self.inside.rows.entries) (rows_routed c.self.inside.rows.entries c.self.invariant.0) c.args.prefix c.is_routed.result (c.is_routed.ensures ∙ ap is_some (sym there)))
+
+pub returns-in-None : goal.returns-in-None
+returns-in-None g c =
+    let none : found (routed c.self.inside.rows.entries) c.args.prefix ≡ None =
+    routed_found c.self.inside.rows.entries c.self.invariant.0.0 c.args.prefix ∙ ap row_of (sym c.get.ensures.value ∙ ap option_copied c.in-None.is) in
+    rw (← c.self.view_is) (routed_is (routed c.self.inside.rows.entries) (rows_routed c.self.inside.rows.entries c.self.invariant.0) c.args.prefix _ (ap is_some (sym none)))

@@ -1,6 +1,7 @@
 use Rattle.std.proofs.Common.{◌≡◌, ◌==◌, ℕ, Some, cond, refl, sym, subst, ◌∙◌}
 use Rattle.decision.specs.BookContents.{AreApart, offer_at, rows_of}
 use Rattle.net_prefix.specs.declared.prefix.Prefix.{Prefix}
+use Rattle.routing.specs.Marks.{AreMarkedBut}
 use Rattle.routing.specs.MarksIn.{AreMarkedButIn}
 use Rattle.routing.specs.RoutingState.{RoutingState}
 use Rattle.routing.specs.Sent.{linked}
@@ -17,10 +18,11 @@ mark_peers-requires g c =
     let peers = c.args.links.now.entries in
     let links = linked peers c.args.self.now.sent in
     let inside = c.self.inside in
-    let old : RoutingState = record { adj_in = inside.ribs.adj_in; book = inside.ribs.book; chosen = inside.ribs.chosen; sent = inside.sent; waiting = inside.waiting; alike = inside.alike } in
-    let new : RoutingState = record { adj_in = c.announce-announced.new.self.adj_in; book = c.announce-announced.new.self.book; chosen = c.announce-announced.new.self.chosen; sent = inside.sent; waiting = inside.waiting; alike = inside.alike } in
+    let old : RoutingState = record { adj_in = inside.ribs.adj_in; book = inside.ribs.book; chosen = inside.ribs.chosen; sent = inside.ribs.sent; waiting = inside.waiting; alike = inside.alike } in
+    let new : RoutingState = record { adj_in = c.announce-announced.new.self.adj_in; book = c.announce-announced.new.self.book; chosen = c.announce-announced.new.self.chosen; sent = c.announce-announced.new.self.sent; waiting = inside.waiting; alike = inside.alike } in
     let but =
     subst (λ (t : RoutingState). AreMarkedButIn c.args.prefix conf peers t) (sym (c.self.view_is ∙ c.unlist.ensures.rest))
     (but_unlisted conf links c.args.prefix c.args.self.now c.unlist.new.self.alike (but_marked conf links c.args.prefix c.args.self.now c.requires.marked) c.unlist.ensures.listed) in
     let routes = routes_either c.announce-announced.result c.args.slot c.args.prefix (Some c.args.attrs.value) old.adj_in new.adj_in ((s : ℕ) (p : Prefix) → offer_at new.book s p ≡ offer_at old.book s p) (rows_of new.book ≡ rows_of old.book) c.announce-announced.ensures.routes c.announce-announced.ensures.err in
-    but_changed conf (linked peers inside.sent) c.args.prefix old new but refl refl c.announce-announced.ensures.others routes
+    subst (λ sent. AreMarkedBut c.args.prefix conf (linked peers sent) new) (sym c.announce-announced.ensures.sent)
+    (but_changed conf (linked peers inside.ribs.sent) c.args.prefix old new but refl refl c.announce-announced.ensures.others routes)

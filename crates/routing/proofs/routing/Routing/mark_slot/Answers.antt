@@ -15,8 +15,8 @@ use Rattle.routing.proofs.routing.Routing.mark_slot.Goals as goal
 pub loop-prefix-init : goal.loop-prefix-init
 loop-prefix-init g c =
     let inside = c.self.inside in
-    let first : RoutingState = record { adj_in = inside.ribs.adj_in; book = inside.ribs.book; chosen = inside.ribs.chosen; sent = inside.sent; waiting = inside.waiting; alike = inside.alike } in
-    rw (← c.self.view_is) (SlotUpTo-none c.args.conf.now (linked c.args.links.now.entries inside.sent) c.args.slot first c.clear.new.self c.requires c.clear.ensures.kept)
+    let first : RoutingState = record { adj_in = inside.ribs.adj_in; book = inside.ribs.book; chosen = inside.ribs.chosen; sent = inside.ribs.sent; waiting = inside.waiting; alike = inside.alike } in
+    rw (← c.self.view_is) (SlotUpTo-none c.args.conf.now (linked c.args.links.now.entries inside.ribs.sent) c.args.slot first c.clear.new.self c.requires c.clear.ensures.kept)
 
 pub loop-prefix-preserved : goal.loop-prefix-preserved
 loop-prefix-preserved g c =

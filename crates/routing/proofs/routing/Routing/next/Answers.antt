@@ -9,5 +9,5 @@ returns-then-is_whole g c =
     let inside = c.self.inside in
     let marked = rw (← c.self.view_is) at c.requires.marked in
     rw (← c.self.view_is)
-    (next_queued c.args.conf.now (linked c.args.links.now.entries inside.sent) (with_waiting inside.ribs inside.sent inside.waiting inside.alike) c.args.slot c.args.owed c.args.after c.next.result marked c.requires.slot (sym c.is_whole.ensures ∙ c.if-is_whole.true) c.next.ensures.has
+    (next_queued c.args.conf.now (linked c.args.links.now.entries inside.ribs.sent) (with_waiting inside.ribs inside.waiting inside.alike) c.args.slot c.args.owed c.args.after c.next.result marked c.requires.slot (sym c.is_whole.ensures ∙ c.if-is_whole.true) c.next.ensures.has
     c.next.ensures.above c.next.ensures.least c.next.ensures.none)

@@ -14,15 +14,15 @@ returns-then-is_wanted g c =
     let conf = c.args.conf.now in
     let slot = c.args.slot in
     let inside = c.self.inside in
-    let links = linked c.args.links.now.entries inside.sent in
-    let l = linked_as inside.sent c.args.slot c.in_ok-peer.peer.now in
-    let t = with_waiting inside.ribs inside.sent inside.waiting inside.alike in
+    let links = linked c.args.links.now.entries inside.ribs.sent in
+    let l = linked_as inside.ribs.sent c.args.slot c.in_ok-peer.peer.now in
+    let t = with_waiting inside.ribs inside.waiting inside.alike in
     let is = c.as_ref.ensures.value ∙ c.chosen_route-chosen.ensures in
-    let there = linked_some c.args.links.now.entries inside.sent c.args.slot c.in_ok-peer.peer.now (sym c.in_ok-peer.ensures.value) in
-    let due = rw c.of-adj_out.ensures at (c.owed-due.ensures.owed t.adj_in t.book is) in
+    let there = linked_some c.args.links.now.entries inside.ribs.sent c.args.slot c.in_ok-peer.peer.now (sym c.in_ok-peer.ensures.value) in
+    let due = rw c.adj_out-adj_out.ensures at (c.owed-due.ensures.owed t.adj_in t.book is) in
     let owed = ap (λ f. (mark_of conf t.adj_in t.book slot c.in-Some.prefix (peer_at conf slot) f).owed) there ∙ sym due in
     let inv = rw (← c.self.view_is) at c.loop-prefix.invariant in
-    let next = rw (← c.self.view_is, c.of-adj_out.ensures) at c.in-Some.ensures in
+    let next = rw (← c.self.view_is, c.adj_out-adj_out.ensures) at c.in-Some.ensures in
     rw (← c.self.view_is)
     (NoneUpTo-found (λ q. (mark_at conf links t slot q).owed ≡ Some c.args.wanted) (IsPossible t l) c.args.after c.loop-prefix.last c.in-Some.prefix (λ q owes. owed_possible conf links t slot q l c.args.wanted there owes) next inv
     (owed ∙ c.is_wanted.ensures.0 c.if-is_wanted.true))
@@ -32,15 +32,15 @@ loop-prefix-preserved g c =
     let conf = c.args.conf.now in
     let slot = c.args.slot in
     let inside = c.self.inside in
-    let links = linked c.args.links.now.entries inside.sent in
-    let l = linked_as inside.sent c.args.slot c.in_ok-peer.peer.now in
-    let t = with_waiting inside.ribs inside.sent inside.waiting inside.alike in
+    let links = linked c.args.links.now.entries inside.ribs.sent in
+    let l = linked_as inside.ribs.sent c.args.slot c.in_ok-peer.peer.now in
+    let t = with_waiting inside.ribs inside.waiting inside.alike in
     let is = c.as_ref.ensures.value ∙ c.chosen_route-chosen.ensures in
-    let there = linked_some c.args.links.now.entries inside.sent c.args.slot c.in_ok-peer.peer.now (sym c.in_ok-peer.ensures.value) in
-    let due = rw c.of-adj_out.ensures at (c.owed-due.ensures.owed t.adj_in t.book is) in
+    let there = linked_some c.args.links.now.entries inside.ribs.sent c.args.slot c.in_ok-peer.peer.now (sym c.in_ok-peer.ensures.value) in
+    let due = rw c.adj_out-adj_out.ensures at (c.owed-due.ensures.owed t.adj_in t.book is) in
     let owed = ap (λ f. (mark_of conf t.adj_in t.book slot c.in-Some.prefix (peer_at conf slot) f).owed) there ∙ sym due in
     let inv = rw (← c.self.view_is) at c.loop-prefix.invariant in
-    let next = rw (← c.self.view_is, c.of-adj_out.ensures) at c.in-Some.ensures in
+    let next = rw (← c.self.view_is, c.adj_out-adj_out.ensures) at c.in-Some.ensures in
     let below = rw c.place-place.ensures.place at c.place-place.ensures.below in
     rw (← c.self.view_is)
     (NoneUpTo-more (λ q. (mark_at conf links t slot q).owed ≡ Some c.args.wanted) (IsPossible t l) c.args.after c.loop-prefix.last c.in-Some.prefix (λ q owes. owed_possible conf links t slot q l c.args.wanted there owes) next inv below
@@ -50,12 +50,12 @@ pub returns : goal.returns
 returns g c =
     let conf = c.args.conf.now in
     let inside = c.self.inside in
-    let links = linked c.args.links.now.entries inside.sent in
-    let l = linked_as inside.sent c.args.slot c.in_ok-peer.peer.now in
-    let t = with_waiting inside.ribs inside.sent inside.waiting inside.alike in
-    let there = linked_some c.args.links.now.entries inside.sent c.args.slot c.in_ok-peer.peer.now (sym c.in_ok-peer.ensures.value) in
+    let links = linked c.args.links.now.entries inside.ribs.sent in
+    let l = linked_as inside.ribs.sent c.args.slot c.in_ok-peer.peer.now in
+    let t = with_waiting inside.ribs inside.waiting inside.alike in
+    let there = linked_some c.args.links.now.entries inside.ribs.sent c.args.slot c.in_ok-peer.peer.now (sym c.in_ok-peer.ensures.value) in
     let inv = rw (← c.self.view_is) at c.loop-prefix.invariant in
-    let next = rw (← c.self.view_is, c.of-adj_out.ensures) at c.in_default.ensures in
+    let next = rw (← c.self.view_is, c.adj_out-adj_out.ensures) at c.in_default.ensures in
     rw (← c.self.view_is)
     (NoneUpTo-all (λ q. (mark_at conf links t c.args.slot q).owed ≡ Some c.args.wanted) (IsPossible t l) c.args.after c.loop-prefix.last (λ q owes. owed_possible conf links t c.args.slot q l c.args.wanted there owes) next inv)
 

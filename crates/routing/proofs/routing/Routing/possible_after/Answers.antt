@@ -9,14 +9,14 @@ returns-then-is_whole-clause-least g c =
     let inside = c.self.inside in
     let marked = rw (← c.self.view_is) at c.requires.marked in
     rw (← c.self.view_is)
-    (least_listed c.args.conf.now (linked c.args.links.now.entries inside.sent) (with_waiting inside.ribs inside.sent inside.waiting inside.alike) c.args.slot c.args.octets.now c.args.after marked c.requires.slot c.next.result (c.next.ensures.least (sym c.is_whole.ensures ∙ c.if-is_whole.true)))
+    (least_listed c.args.conf.now (linked c.args.links.now.entries inside.ribs.sent) (with_waiting inside.ribs inside.waiting inside.alike) c.args.slot c.args.octets.now c.args.after marked c.requires.slot c.next.result (c.next.ensures.least (sym c.is_whole.ensures ∙ c.if-is_whole.true)))
 
 pub returns-then-is_whole-clause-none : goal.returns-then-is_whole-clause-none
 returns-then-is_whole-clause-none g c =
     let inside = c.self.inside in
     let marked = rw (← c.self.view_is) at c.requires.marked in
     rw (← c.self.view_is)
-    (none_listed c.args.conf.now (linked c.args.links.now.entries inside.sent) (with_waiting inside.ribs inside.sent inside.waiting inside.alike) c.args.slot c.args.octets.now c.args.after marked c.requires.slot c.next.result (c.next.ensures.none (sym c.is_whole.ensures ∙ c.if-is_whole.true)))
+    (none_listed c.args.conf.now (linked c.args.links.now.entries inside.ribs.sent) (with_waiting inside.ribs inside.waiting inside.alike) c.args.slot c.args.octets.now c.args.after marked c.requires.slot c.next.result (c.next.ensures.none (sym c.is_whole.ensures ∙ c.if-is_whole.true)))
 
 pub returns-else-is_whole-clause-above : goal.returns-else-is_whole-clause-above
 returns-else-is_whole-clause-above g c =

@@ -9,7 +9,6 @@ loop-prefix-preserved g c =
     record {
       told = ToldSo-more c.args.slot c.args.prefixes.now c.loop-prefix.prefix-index c.prefix-item.result _ c.loop-prefix.self-inside.waiting c.set.new.self within c.prefix-item.is h.told c.set.ensures.here c.set.ensures.others;
       ribs = h.ribs;
-      sent = h.sent;
       alike = h.alike;
     }
 

@@ -7,6 +7,5 @@ abbrev pub invariant-loop-prefix : goal.invariant-loop-prefix
 invariant-loop-prefix g l = record {
   told : ToldSo l.slot l.prefixes l.prefix-index l.initial.self-inside.waiting l.self-inside.waiting;
   ribs : l.self-inside.ribs ≡ l.initial.self-inside.ribs;
-  sent : l.self-inside.sent ≡ l.initial.self-inside.sent;
   alike : l.self-inside.alike ≡ l.initial.self-inside.alike;
 }

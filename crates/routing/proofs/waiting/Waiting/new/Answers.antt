@@ -6,4 +6,4 @@ use Rattle.routing.proofs.waiting.Waiting.new.Goals as goal
 
 pub returns-clause-rising : goal.returns-clause-rising
 returns-clause-rising g c =
-    differing_rises c.args.adj_out.now (export_in c.args.conf.now (best_at (rows_of c.args.ribs.now.book)) c.args.ribs.now.adj_in c.args.peer) c.new.result c.new.ensures.rising
+    differing_rises c.args.adj_out (export_in c.args.conf.now (best_at (rows_of c.args.ribs.now.book)) c.args.ribs.now.adj_in c.args.peer) c.new-known.result c.new-known.ensures.rising

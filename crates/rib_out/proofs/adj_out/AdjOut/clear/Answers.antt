@@ -1,5 +1,0 @@
-use Rattle.std.proofs.Common.{rules}
-use Rattle.rib_out.proofs.adj_out.AdjOut.clear.Goals as goal
-
-pub returns : goal.returns
-returns g c = search rules
