@@ -8,7 +8,7 @@ use Rattle.decision.specs.declared.book.Change.{Change}
 use Rattle.decision.specs.declared.candidate.Candidate.{Candidate}
 use Rattle.decision.proofs.PlaceLists.{best_added, idle_places, lookup_mapped, same_slot, slot_itself}
 use Rattle.live_book.specs.NeighborBests.{AreBests, empty_place, slots_of}
-use Rattle.live_book.specs.declared.place.Place.{Place}
+use Rattle.live_book.specs.Places.{Place}
 use Rattle.live_book.proofs.PlaceBests.{bests_pushed, slots_pushed}
 
 pub added_bests : (b : Bool) (slot : ℕ) (ps new : List Place) → new ≡ cond b (ps ++ empty_place slot ∷ []) ps → AreBests ps → AreBests new

@@ -11,7 +11,7 @@ use Rattle.decision.proofs.BestPlaces.{distinct_places}
 use Rattle.decision.proofs.Laws.{among_one}
 use Rattle.decision.proofs.One.{Among, among_selection, one_selected}
 use Rattle.live_book.specs.NeighborBests.{AreBests, AreFair, HaveStood, IsBestOfNeighbor, IsPlace, is_behind, is_kept, is_named, is_opened, leads, moved, neighbor_if, of_neighbor, offered, opened_by, opened_of, slots_of, standing_of}
-use Rattle.live_book.specs.declared.place.Place.{Place}
+use Rattle.live_book.specs.Places.{Place}
 use Rattle.live_book.specs.declared.place.Standing.{Standing}
 use Rattle.live_book.specs.declared.place.Standing.TheVariants.{Behind, Open, Leads, Won}
 use Rattle.live_book.proofs.Groups.{distinct_group, group_neighbor, group_within, in_group, selected_of_neighbor}

@@ -14,7 +14,7 @@ use Rattle.decision.proofs.BestPlaces.{among_candidates}
 use Rattle.decision.proofs.One.{Among, among_unbeaten, among_selection, before_address}
 use Rattle.decision.proofs.PlaceLists.{same_slot, slot_itself, other_slot, slots_differ, turned}
 use Rattle.live_book.specs.NeighborBests.{AreBests, IsBestOfNeighbor, IsPlace, empty_place, leads, offered, slots_of}
-use Rattle.live_book.specs.declared.place.Place.{Place}
+use Rattle.live_book.specs.Places.{Place}
 use Rattle.std.proofs.lemmas.Bool.Decides.{nat_tests}
 use Rattle.std.specs.Prelude.{nat_lt}
 
@@ -126,6 +126,9 @@ mapped_next f ps qs i d h long is = map_over_more f ps qs i (get_or qs i d) h is
 pub picked_next : {X : Type 0} (f : Place → Option X) (ps : List Place) (i : ℕ) (d : Place) → i < length ps → filter_map f (take (i + 1) ps) ≡ filter_map f (take i ps) ++ cons_option (f (get_or ps i d)) []
 picked_next f ps i d h = ap (filter_map f) (take_more ps i d h) ∙ filter_map-append f (take i ps) (get_or ps i d ∷ [])
 
+pub picked_here : {X : Type 0} (f : Place → Option X) (ps : List Place) (i : ℕ) (p : Place) → i < length ps → p ≡ get_or ps i p → filter_map f (take (i + 1) ps) ≡ filter_map f (take i ps) ++ cons_option (f p) []
+picked_here f ps i p lt is = picked_next f ps i p lt ∙ ap (λ q. filter_map f (take i ps) ++ cons_option (f q) []) (sym is)
+
 pub length_next : {X : Type 0} (xs ys : List X) (x : X) (i : ℕ) → xs ≡ ys ++ x ∷ [] → length ys ≤ i → length xs ≤ i + 1
 length_next xs ys x i is few = let long : length (ys ++ x ∷ []) ≡ length ys + 1 = length_push ys x in let same : length xs ≡ length (ys ++ x ∷ []) = ap length is in omega arith
 
@@ -163,6 +166,9 @@ pub idle_at : (changes : List Change) (ps : List Place) (i : ℕ) (d : Place) �
 idle_at changes [] i d h same = absurd (omega arith)
 idle_at changes (p ∷ ps) zero d h same = ap (λ (qs : List (ℕ × Option Candidate)). (get_or qs 0 (0, None)).1) same
 idle_at changes (p ∷ ps) (suc k) d h same = idle_at changes ps k d (omega arith) (ap (drop 1) same)
+
+pub idle_here : (changes : List Change) (ps : List Place) (i : ℕ) (p : Place) → i < length ps → p ≡ get_or ps i p → with_changes changes (slots_of ps) ≡ slots_of ps → changed changes p.slot p.candidate ≡ p.candidate
+idle_here changes ps i p h is same = subst (λ q. changed changes q.slot q.candidate ≡ q.candidate) (sym is) (idle_at changes ps i p h same)
 
 -- ---- a place more or less
 

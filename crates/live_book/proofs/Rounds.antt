@@ -14,7 +14,7 @@ use Rattle.decision.proofs.One.{Among, among_selection, one_selected}
 use Rattle.live_book.specs.NeighborBests.{AreBests, AreFair, HaveStood, IsBestBefore, IsBestOfNeighbor, IsPlace, contender, contenders_of, empty_place, is_behind, is_in, is_kept, is_of, is_open, keeps_lead, last_round, leads, narrowed, narrowed_standing, neighbor_if, neighbor_to_settle, of_neighbor, offered, slots_of, to_settle_at}
 use Rattle.live_book.specs.declared.comparing.Round.{Round}
 use Rattle.live_book.specs.declared.comparing.Round.TheVariants.{Neighbor, Newcomers, Bests}
-use Rattle.live_book.specs.declared.place.Place.{Place}
+use Rattle.live_book.specs.Places.{Place}
 use Rattle.live_book.specs.declared.place.Standing.{Standing}
 use Rattle.live_book.specs.declared.place.Standing.TheVariants.{Behind, Open, Leads, Won}
 use Rattle.live_book.proofs.Groups.{Within, distinct_group, group_neighbor, group_within, in_group, selected_best, selected_of_bests, selected_of_neighbor}

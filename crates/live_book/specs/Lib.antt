@@ -1,1 +1,4 @@
 pub mod NeighborBests
+pub mod KeptAlone
+pub mod Places
+pub mod PlaceStates

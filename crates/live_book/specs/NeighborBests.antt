@@ -10,7 +10,7 @@ use Rattle.live_book.specs.declared.comparing.Few.{Few}
 use Rattle.live_book.specs.declared.comparing.Few.TheVariants.{Nobody, One, Two, Many}
 use Rattle.live_book.specs.declared.comparing.Round.{Round}
 use Rattle.live_book.specs.declared.comparing.Round.TheVariants.{Neighbor, Newcomers, Bests}
-use Rattle.live_book.specs.declared.place.Place.{Place}
+use Rattle.live_book.specs.Places.{Place}
 use Rattle.live_book.specs.declared.place.Standing.{Standing}
 use Rattle.live_book.specs.declared.place.Standing.TheVariants.{Behind, Open, Leads, Won}
 
@@ -59,6 +59,15 @@ offered ps = candidates_of (slots_of ps)
 -- a place without a candidate
 abbrev pub empty_place : ℕ → Place
 empty_place slot = record { slot = slot; candidate = None; standing = Behind }
+
+-- the place of a slot that stood alone
+abbrev pub first_place : ℕ → Option Candidate → Place
+first_place slot candidate = record { slot = slot; candidate = candidate; standing = Leads }
+
+-- the slot, where it has a candidate
+abbrev pub slot_if : ℕ → Option Candidate → Option ℕ
+slot_if slot None = None
+slot_if slot (Some c) = Some slot
 
 -- the place is one of these
 abbrev pub IsPlace : Place → List Place → Type 0

@@ -64,8 +64,8 @@ fn is_named(changes: &[Change], slot: u8) -> bool
 fn opened_by(changes: &[Change], place: &Place) -> Option<u32>
     ensures { result ≡ opened_by changes.now place.now }
 {
-    match place.candidate {
-        Some(candidate) if place.standing.leads() && is_named(changes, place.slot) => {
+    match place.candidate() {
+        Some(candidate) if place.standing().leads() && is_named(changes, place.slot()) => {
             Some(candidate.neighbor.0)
         }
         _ => None,
@@ -107,11 +107,11 @@ fn is_opened(opened: &[u32], candidate: Option<Candidate>) -> bool
 fn standing_of(changes: &[Change], opened: &[u32], place: &Place) -> Standing
     ensures { result ≡ standing_of changes.now opened.now place.now }
 {
-    if is_named(changes, place.slot) {
+    if is_named(changes, place.slot()) {
         Standing::Open
-    } else if place.standing.leads() {
+    } else if place.standing().leads() {
         Standing::Leads
-    } else if is_opened(opened, place.candidate) {
+    } else if is_opened(opened, place.candidate()) {
         Standing::Open
     } else {
         Standing::Behind
@@ -122,22 +122,22 @@ fn standing_of(changes: &[Change], opened: &[u32], place: &Place) -> Standing
 fn moved(changes: &[Change], opened: &[u32], place: &Place) -> Place
     ensures { result ≡ moved changes.now opened.now place.now }
 {
-    Place {
-        slot: place.slot,
-        candidate: after(changes, place.slot, place.candidate),
-        standing: standing_of(changes, opened, place),
-    }
+    Place::new(
+        place.slot(),
+        standing_of(changes, opened, place),
+        after(changes, place.slot(), place.candidate()),
+    )
 }
 
 // The place after the changes, where it stands alone. How it stands says nothing where it has no candidate.
 pub(crate) fn renewed(changes: &[Change], place: &Place) -> Place
     ensures { result ≡ renewed changes.now place.now }
 {
-    Place {
-        slot: place.slot,
-        candidate: after(changes, place.slot, place.candidate),
-        standing: Standing::Won,
-    }
+    Place::new(
+        place.slot(),
+        Standing::Won,
+        after(changes, place.slot(), place.candidate()),
+    )
 }
 
 fn move_each(changes: &[Change], opened: &[u32], places: &mut [Place])
@@ -168,12 +168,12 @@ fn is_in(round: Round, place: &Place) -> bool
 {
     match round {
         Round::Neighbor(neighbor) => {
-            is_of(neighbor, place.candidate) && !place.standing.is_behind()
+            is_of(neighbor, place.candidate()) && !place.standing().is_behind()
         }
         Round::Newcomers(best) => {
-            place.standing.leads() && (!place.standing.is_kept() || place.slot == best)
+            place.standing().leads() && (!place.standing().is_kept() || place.slot() == best)
         }
-        Round::Bests => place.standing.leads(),
+        Round::Bests => place.standing().leads(),
     }
 }
 
@@ -192,7 +192,7 @@ fn contender(round: Round, place: &Place) -> Option<Candidate>
     ensures { result ≡ contender round place.now }
 {
     if is_in(round, place) {
-        place.candidate
+        place.candidate()
     } else {
         None
     }
@@ -253,20 +253,16 @@ fn best_of_many(meter: &mut Meter, round: Round, places: &[Place]) -> Option<Can
 fn narrowed(neighbor: u32, best: u8, place: &Place) -> Place
     ensures { result ≡ narrowed neighbor best place.now }
 {
-    let standing = if !is_of(neighbor, place.candidate) {
-        place.standing
-    } else if place.slot != best {
+    let standing = if !is_of(neighbor, place.candidate()) {
+        place.standing()
+    } else if place.slot() != best {
         Standing::Behind
-    } else if place.standing.is_kept() {
+    } else if place.standing().is_kept() {
         Standing::Leads
     } else {
         Standing::Won
     };
-    Place {
-        slot: place.slot,
-        candidate: place.candidate,
-        standing,
-    }
+    Place::new(place.slot(), standing, place.candidate())
 }
 
 fn narrow_each(neighbor: u32, best: u8, places: &mut [Place])
@@ -298,8 +294,8 @@ fn settle(neighbor: u32, places: &mut [Place])
 fn neighbor_to_settle(place: &Place) -> Option<u32>
     ensures { result ≡ neighbor_to_settle place.now }
 {
-    match place.candidate {
-        Some(candidate) if place.standing.is_open() => Some(candidate.neighbor.0),
+    match place.candidate() {
+        Some(candidate) if place.standing().is_open() => Some(candidate.neighbor.0),
         _ => None,
     }
 }
@@ -325,7 +321,7 @@ fn keeps_lead(places: &[Place], slot: u8) -> bool
 {
     places
         .iter()
-        .any(|place| place.slot == slot && place.standing.is_kept())
+        .any(|place| place.slot() == slot && place.standing().is_kept())
 }
 
 // Who is compared for the best of all: it and those that became the best of their AS, or all bests where it is none now.
@@ -339,9 +335,18 @@ fn last_round(places: &[Place], best: Option<u8>) -> Round
 }
 
 // A count has 64 bits.
-pub(crate) fn is_count(count: u64)
+fn is_count(count: u64)
     ensures { count < 2 ^ 64 }
 {}
+
+// Counts a choice that compares none.
+pub(crate) fn count_choice(meter: &mut Meter)
+    ensures counted { (meter.old.count ≤ meter.new.count) × (meter.new.count ≤ meter.old.count + 1) }
+    ensures chosen { meter.new.count ≡ min (meter.old.count + 1) (2 ^ 64 - 1) }
+{
+    is_count(meter.count());
+    meter.add();
+}
 
 // The slot of the best of all.
 pub(crate) fn best_of(meter: &mut Meter, places: &[Place], best: Option<u8>) -> Option<u8>

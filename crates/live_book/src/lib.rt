@@ -16,7 +16,8 @@
 //! `LiveBook` marks at each place whether its candidate is the best of its AS. One that comes is compared with the best
 //! of its AS, and if it wins, with the best of all. Where the best of an AS goes or changes, that AS alone is compared
 //! again (`settle`). The bests of all ASes are compared where the best of all goes, changes, or falls behind within its AS.
-//! The candidate of a place that stands alone is compared with none.
+//! The candidate of a place that stands alone is compared with none. Such a place, as most prefixes have, is in the book
+//! itself: a list of places is made with the second one, and takes no more memory than the places need.
 //! The marks stand in the places, so there is no group to make room for, and none to forget. What is counted is that a best
 //! route is chosen, once a call at most: comparing within an AS is a part of it, by a meter of its own.
 #![tactic(auto)]
@@ -24,6 +25,7 @@
 mod comparing;
 mod laws;
 mod live;
+mod many_places;
 mod place;
 mod places;
 

@@ -1,11 +1,11 @@
 //! What is done with the places of a prefix.
 ghost use Rattle.std.specs.Prelude.{◌≡◌, ◌≤◌, ◌+◌, ◌-◌, ◌^◌, ◌++◌, ◌∷◌, ◌&&◌, [], true, IsTrue, ◌↔◌, filter, is_ok, length, min, nat_eq, not, option_and_then, if◌then◌else◌};
 ghost use Rattle.std.specs.Map.{lookup};
-ghost use Rattle.decision.specs.BookContents.{candidate_of, is_placed};
+ghost use Rattle.decision.specs.BookContents.{candidate_of, changed, is_placed};
 ghost use Rattle.decision.specs.KeptPlaces.{ArePlaces, IsBestAt, with_changes};
 ghost use Rattle.live_book.specs.NeighborBests.{AreBests, HaveStood, empty_place, leads, slots_of};
 
-use crate::comparing::{after, is_count, open, renewed, settle_each};
+use crate::comparing::{after, count_choice, open, renewed, settle_each};
 use crate::place::Place;
 use decision::{Candidate, Change, MAX_CANDIDATES, Meter};
 use std::alloc::{AllocError, Allocator};
@@ -34,7 +34,7 @@ pub(crate) fn add_place<A: Allocator>(
 pub(crate) fn remove_place<A: Allocator>(places: &mut Vec<Place, A>, slot: u8)
     ensures { places.new.items ≡ filter (λ place. not (nat_eq slot place.slot)) places.old.items }
 {
-    places.retain(|place| slot != place.slot);
+    places.retain(|place| slot != place.slot());
 }
 
 // Whether the slot has a place.
@@ -59,8 +59,8 @@ fn place_at(places: &[Place], slot: u8) -> Option<Option<Candidate>>
     ensures { result ≡ lookup (nat_eq slot) (slots_of places.now) }
 {
     for place in places {
-        if place.slot == slot {
-            return Some(place.candidate);
+        if place.slot() == slot {
+            return Some(place.candidate());
         }
     }
     None
@@ -71,15 +71,23 @@ pub(crate) fn are_idle(changes: &[Change], places: &[Place]) -> bool
     ensures { IsTrue result ↔ (with_changes changes.now (slots_of places.now) ≡ slots_of places.now) }
 {
     for place in places {
-        if !is_same(after(changes, place.slot, place.candidate), place.candidate) {
+        if !is_idle(changes, place) {
             return false;
         }
     }
     true
 }
 
+// Whether the changes leave the candidate of the place as it is.
+fn is_idle(changes: &[Change], place: &Place) -> bool
+    ensures { IsTrue result ↔ (changed changes.now place.now.slot place.now.candidate ≡ place.now.candidate) }
+{
+    let candidate = place.candidate();
+    is_same(after(changes, place.slot(), candidate), candidate)
+}
+
 // Whether both are one candidate, or none.
-fn is_same(first: Option<Candidate>, second: Option<Candidate>) -> bool
+pub(crate) fn is_same(first: Option<Candidate>, second: Option<Candidate>) -> bool
     ensures { IsTrue result ↔ (first ≡ second) }
 {
     match (first, second) {
@@ -110,11 +118,10 @@ pub(crate) fn renew<A: Allocator>(
     ensures counted { (meter.old.count ≤ meter.new.count) × (meter.new.count ≤ meter.old.count + 1) }
     ensures chosen { meter.new.count ≡ min (meter.old.count + 1) (2 ^ 64 - 1) }
 {
-    is_count(meter.count());
-    meter.add();
+    count_choice(meter);
     let place = renewed(changes, &places[0]);
     places[0] = place;
-    place.candidate.map(|candidate| candidate.slot)
+    place.candidate().map(|candidate| candidate.slot)
 }
 
 // Makes the changes, and finds the best one of each neighbor AS.

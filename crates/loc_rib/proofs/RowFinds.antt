@@ -2,10 +2,8 @@
 use Rattle.std.proofs.Common.{◌≡◌, ℕ, Bool, true, false, cond, List, [], ◌∷◌, Option, Some, None, IfNone, IfSome, IsSome, MatchBool, filter, map, slice_get, option_map, is_some, refl, sym, ap, ◌∙◌, subst}
 use Rattle.std.proofs.lemmas.Map.Made.{lookup-map_values}
 use Rattle.std.specs.BTreeMap.{is_at}
-use Rattle.std.specs.BTreeMap.Range.{entries_between}
 use Rattle.std.specs.List.{cons_option, find}
 use Rattle.std.specs.Ordering.{is_gt, is_lt}
-use Rattle.std.specs.declared.ops.Bound.TheVariants.{Excluded, Unbounded}
 use Rattle.decision.specs.BookContents.{BookState, Kept, first_after, rows_of}
 use Rattle.decision.specs.declared.candidate.Candidate.{Candidate}
 use Rattle.net_prefix.specs.PrefixOrder.{IsAbove, prefix_cmp}
@@ -16,9 +14,9 @@ use Rattle.prefix_trie.specs.TrieWalks.{all_after, first_key}
 use Rattle.rib_in.proofs.SlotWalks.{some_route}
 use Rattle.rib_in.proofs.Walks.{routes_kept}
 use Rattle.rib_in.specs.LatestRoutes.{HasRoute, RouteList, RouteTable, route_among, route_at, routes_of}
-use Rattle.rib_rows.proofs.Picked.{picked_above, picked_all}
+use Rattle.prefix_table.proofs.Picked.{picked_filter}
 use Rattle.loc_rib.proofs.RowTables.{route_is, row_found}
-use Rattle.rib_rows.specs.Picked.{picked}
+use Rattle.prefix_table.specs.Picked.{picked}
 use Rattle.rib_rows.specs.PrefixRows.{AreRows, PrefixRow, RowTable, adj_in_of, book_of, route_of}
 use Rattle.rib_rows.specs.Records.{PrefixRecord, RecordTable, routed}
 
@@ -54,14 +52,9 @@ routes_there (Some routes) s has = refl
 
 -- ---- a walk from a prefix on
 
--- the records above a prefix, or all
-abbrev pub records_from : Option Prefix → RecordTable → RecordTable
-records_from None es = entries_between prefix_cmp Unbounded Unbounded es
-records_from (Some p) es = entries_between prefix_cmp (Excluded p) Unbounded es
-
-pub read_from : {X : Type 0} (read : PrefixRecord → Option X) (after : Option Prefix) (es : RecordTable) → picked read (records_from after es) ≡ all_after after (picked read es)
-read_from read None es = picked_all read es
-read_from read (Some p) es = picked_above read p es
+pub read_from : {X : Type 0} (read : PrefixRecord → Option X) (after : Option Prefix) (es : RecordTable) → picked read (all_after after es) ≡ all_after after (picked read es)
+read_from read None es = refl
+read_from read (Some p) es = picked_filter read (λ q. is_lt (prefix_cmp p q)) es
 
 module _ {V W : Type 0} (read : V → W) where
   mapped_case : (b : Bool) (e : Prefix × V) (rest : List (Prefix × V)) (more : List (Prefix × W)) → map {B = Prefix × W} (λ x. (x.0, read x.1)) rest ≡ more → map {B = Prefix × W} (λ x. (x.0, read x.1)) (cond b (e ∷ rest) rest) ≡ cond b ((e.0, read e.1) ∷ more) more
@@ -80,10 +73,10 @@ module _ {V W : Type 0} (read : V → W) where
   first_mapped [] = refl
   first_mapped (e ∷ es) = refl
 
-pub adj_in_from : (after : Option Prefix) (es : RecordTable) → adj_in_of (routed (records_from after es)) ≡ all_after after (adj_in_of (routed es))
+pub adj_in_from : (after : Option Prefix) (es : RecordTable) → adj_in_of (routed (all_after after es)) ≡ all_after after (adj_in_of (routed es))
 adj_in_from after es = ap adj_in_of (read_from (λ r. r.row) after es) ∙ mapped_after (λ r. r.routes) after (routed es)
 
-pub book_from : (after : Option Prefix) (es : RecordTable) → book_of (routed (records_from after es)) ≡ all_after after (book_of (routed es))
+pub book_from : (after : Option Prefix) (es : RecordTable) → book_of (routed (all_after after es)) ≡ all_after after (book_of (routed es))
 book_from after es = ap book_of (read_from (λ r. r.row) after es) ∙ mapped_after (λ r. r.kept) after (routed es)
 
 -- the routes of a slot

@@ -12,11 +12,11 @@ use Rattle.net_prefix.specs.declared.prefix.Prefix.{Prefix}
 use Rattle.prefix_trie.specs.TrieMap.{IsRising, found}
 use Rattle.rib_out.proofs.HeldTables.{asked_at-all_asked, held_at-all_asked}
 use Rattle.rib_out.specs.Held.{HeldRoute, all_asked, asked_at, held_at, is_among, octets_of}
-use Rattle.rib_out.specs.Holdings.{HoldingsState, held_by, holds_any, octets_by}
+use Rattle.holdings.specs.Holdings.{HoldingsState, held_by, holds_any, octets_by}
 use Rattle.rib_out.specs.Slots.{has_slot}
-use Rattle.rib_rows.proofs.Picked.{map_picked, picked_alike, picked_found, picked_rising, picked_twice, same_found}
+use Rattle.prefix_table.proofs.Picked.{map_picked, picked_alike, picked_found, picked_rising, picked_twice, same_found}
 use Rattle.rib_rows.proofs.RecordTables.{needed_found, none_held, records_needed}
-use Rattle.rib_rows.specs.Picked.{picked}
+use Rattle.prefix_table.specs.Picked.{picked}
 use Rattle.rib_rows.specs.PrefixRows.{RowTable, adj_in_of, book_of}
 use Rattle.rib_rows.specs.Records.{AreRecords, AreSound, IsNeeded, IsRecord, PrefixRecord, RecordTable, asked_again, held_of, renewed, routed, sent_in, sent_of}
 use Rattle.loc_rib.specs.RibTables.{RibTables}

@@ -3,9 +3,9 @@ use Rattle.std.specs.Prelude.{ℕ, Bool, ◌≡◌, List, [], true, false}
 use Rattle.std.specs.Option.{is_some}
 use Rattle.net_prefix.specs.declared.prefix.Prefix.{Prefix}
 use Rattle.rib_out.specs.Held.{HeldRoute, asked_at, held_at}
-use Rattle.rib_out.specs.Holdings.{HoldingsState, held_by}
+use Rattle.holdings.specs.Holdings.{HoldingsState, held_by}
 use Rattle.rib_out.specs.Slots.{has_slot}
-use Rattle.rib_rows.specs.Picked.{picked}
+use Rattle.prefix_table.specs.Picked.{picked}
 
 -- what the peers hold of all prefixes
 abbrev pub SentTable : Type 0

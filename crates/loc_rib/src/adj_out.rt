@@ -10,11 +10,10 @@ ghost use Rattle.loc_rib.specs.SentTables.{sent_to};
 
 use crate::ribs::Ribs;
 use decision::Book;
+use holdings::SentAttributes;
 use net_prefix::Prefix;
-use rib_out::SentAttributes;
-use rib_rows::{Record, first_held};
+use rib_rows::{RecordRange, first_held};
 use std::alloc::Allocator;
-use std::collections::btree_map;
 use std::marker::Model;
 
 /// What one peer was sent: the attributes of each prefix that it holds, as they were sent, and whether it has asked for the
@@ -132,15 +131,15 @@ impl<'a, A: Allocator + Clone, B: Book<A>> AdjOut<'a, A, B> {
 /// The prefixes that a peer holds, with the attributes that it was sent.
 #[derive(Drop)]
 pub struct HeldRoutes<'a, A: Allocator + Clone, B: Book<A>> {
-    rest: btree_map::Range<'a, Prefix, Record<A, B>>,
+    rest: RecordRange<'a, A, B>,
     slot: u8,
 }
 
 impl<'a, A: Allocator + Clone, B: Book<A>> Model for HeldRoutes<'a, A, B> {
     ghost use Rattle.std.specs.Prelude.{List, ℕ, ◌<◌};
     ghost use Rattle.net_prefix.specs.declared.prefix.Prefix.{Prefix};
-    ghost use Rattle.rib_out.specs.Holdings.{octets_by};
-    ghost use Rattle.rib_rows.specs.Picked.{picked};
+    ghost use Rattle.holdings.specs.Holdings.{octets_by};
+    ghost use Rattle.prefix_table.specs.Picked.{picked};
 
     ghost Value = { List (Prefix × List ℕ) };
 
@@ -159,7 +158,7 @@ impl<'a, A: Allocator + Clone, B: Book<A>> Iterator for HeldRoutes<'a, A, B> {
     fn next(&mut self) -> Option<(Prefix, &'a SentAttributes<A>)> {
         while let Some((prefix, record)) = self.rest.next() {
             if let Some(sent) = record.held(self.slot) {
-                return Some((*prefix, sent));
+                return Some((prefix, sent));
             }
         }
         None

@@ -14,8 +14,8 @@ ghost use Rattle.rib_in.specs.LatestRoutes.{HasRoute, is_route, route_at, routes
 ghost use Rattle.prefix_trie.specs.TrieMap.{IsRising, found};
 ghost use Rattle.prefix_trie.specs.TrieWalks.{IsNext, all_after};
 ghost use Rattle.rib_out.specs.Held.{all_asked, asked_at, held_at, is_among};
-ghost use Rattle.rib_out.specs.Holdings.{held_by};
-ghost use Rattle.rib_rows.specs.Picked.{picked};
+ghost use Rattle.holdings.specs.Holdings.{held_by};
+ghost use Rattle.prefix_table.specs.Picked.{picked};
 ghost use Rattle.rib_rows.specs.PrefixRows.{adj_in_of, book_of};
 ghost use Rattle.rib_rows.specs.Records.{routed};
 ghost use Rattle.loc_rib.specs.RibTables.{CountsAnother, CountsOne, RisesBy, started};
@@ -28,16 +28,14 @@ use crate::sent_marks::SentMarks;
 use crate::slot_routes::SlotRoutes;
 use bgp_attr::Attrs;
 use decision::{Book, Candidate, Change, Meter};
+use holdings::SentAttributes;
 use net_prefix::Prefix;
-use rib_out::SentAttributes;
 use rib_rows::{
-    Record, RecordMap, announce_in, ask_in, bring_in, change_in, clear_in, first_best,
+    RecordMap, RecordRange, announce_in, ask_in, bring_in, change_in, clear_in, first_best,
     first_of_slot, first_routed, withdraw_in,
 };
 use std::alloc::{AllocError, Allocator};
-use std::collections::{BTreeMap, btree_map};
 use std::marker::Model;
-use std::ops::Bound;
 use std::rc::Rc;
 
 /// The routes that came, the candidates that they make, the best of each prefix, and what the peers hold.
@@ -73,7 +71,7 @@ impl<A: Allocator + Clone, B: Book<A>> Ribs<A, B> {
     pub fn new(alloc: A) -> Result<Self, AllocError>
         ensures { IfOk result (λ ribs. (ribs ≡ record started { sent = ribs.sent }) × ((s : ℕ) → sent_to ribs.sent s ≡ [])) }
     {
-        let rows = BTreeMap::new(alloc.clone()?);
+        let rows = RecordMap::<A, B>::new(alloc.clone()?)?;
         Ok(Ribs {
             rows,
             alloc,
@@ -182,7 +180,7 @@ impl<A: Allocator + Clone, B: Book<A>> Ribs<A, B> {
         // A candidate is always one of a route.
         ensures routed { (s : ℕ) (p : ThePrefix) → IsSome (offer_at self.now.book s p) → IsSome (route_at self.now.adj_in s p) }
     {
-        match self.rows.get(&prefix) {
+        match self.rows.get(prefix) {
             Some(record) => record.get(slot),
             None => None,
         }
@@ -192,7 +190,7 @@ impl<A: Allocator + Clone, B: Book<A>> Ribs<A, B> {
     pub fn is_routed(&self, prefix: Prefix) -> bool
         ensures { MatchBool result (HasRoute self.now.adj_in prefix) ((s : ℕ) → route_at self.now.adj_in s prefix ≡ None) }
     {
-        match self.rows.get(&prefix) {
+        match self.rows.get(prefix) {
             Some(record) => record.is_routed(),
             None => false,
         }
@@ -255,33 +253,24 @@ impl<A: Allocator + Clone, B: Book<A>> Ribs<A, B> {
         ensures rising { IsRising self.now.adj_in }
         ensures routed { (p : ThePrefix) → IsSome (found self.now.adj_in p) → HasRoute self.now.adj_in p }
     {
-        self.rows.len();
+        self.rows.rises();
     }
 
     // The records of prefixes above the given one, or all.
-    pub(crate) fn records_after(
-        &self,
-        after: Option<Prefix>,
-    ) -> btree_map::Range<'_, Prefix, Record<A, B>>
+    pub(crate) fn records_after(&self, after: Option<Prefix>) -> RecordRange<'_, A, B>
         ensures adj_in { adj_in_of (routed result) ≡ all_after after self.now.adj_in }
         ensures book { book_of (routed result) ≡ all_after after self.now.book }
         ensures sent { (s : ℕ) → picked (λ r. held_by r.sent s) result ≡ all_after after (sent_to self.now.sent s) }
         ensures rising { (s : ℕ) → IsRising (sent_to self.now.sent s) }
     {
-        match after {
-            Some(prefix) => self.rows.range((Bound::Excluded(prefix), Bound::Unbounded)),
-            None => {
-                let all: (Bound<Prefix>, Bound<Prefix>) = (Bound::Unbounded, Bound::Unbounded);
-                self.rows.range(all)
-            }
-        }
+        self.rows.range_after(after)
     }
 
     /// The best route of a prefix.
     pub fn best(&self, prefix: Prefix) -> Option<Candidate>
         ensures { result ≡ best_at (rows_of self.now.book) prefix }
     {
-        match self.rows.get(&prefix) {
+        match self.rows.get(prefix) {
             Some(record) => record.best(),
             None => None,
         }
@@ -292,7 +281,7 @@ impl<A: Allocator + Clone, B: Book<A>> Ribs<A, B> {
         ensures none { IfNone result (best_at (rows_of self.now.book) prefix ≡ None) }
         ensures some { IfSome result (λ r. (best_at (rows_of self.now.book) prefix ≡ Some r.0) × (route_at self.now.adj_in r.0.slot prefix ≡ Some r.1.now.value)) }
     {
-        match self.rows.get(&prefix) {
+        match self.rows.get(prefix) {
             Some(record) => record.best_route(),
             None => None,
         }
@@ -306,7 +295,7 @@ impl<A: Allocator + Clone, B: Book<A>> Ribs<A, B> {
         // A candidate is always one of a route.
         ensures routed { (s : ℕ) (p : ThePrefix) → IsSome (offer_at self.now.book s p) → IsSome (route_at self.now.adj_in s p) }
     {
-        self.rows.len();
+        self.rows.rises();
     }
 
     /// How often a best route was chosen so far, up to 2^64 - 1.
@@ -370,7 +359,7 @@ impl<A: Allocator + Clone, B: Book<A>> Ribs<A, B> {
         ensures some { IfSome result (λ r. found (sent_to self.now.sent slot) prefix ≡ Some (record { octets = r.0.now; asked = r.1 })) }
         ensures none { IfNone result (found (sent_to self.now.sent slot) prefix ≡ None) }
     {
-        let record = self.rows.get(&prefix)?;
+        let record = self.rows.get(prefix)?;
         let sent = record.held(slot)?;
         Some((sent, record.is_asked(slot)))
     }

@@ -6,8 +6,8 @@ ghost use Rattle.rib_out.specs.Held.{is_among};
 ghost use Rattle.rib_rows.specs.Records.{AreRecords, AreSound, IsNeeded, IsPrepared, held_of, renewed, routed};
 
 use decision::Book;
+use holdings::SentAttributes;
 use net_prefix::Prefix;
-use rib_out::SentAttributes;
 use rib_rows::{RecordMap, drop_in, hold_in, ready_in, renew_in, tidy_in};
 use std::alloc::{AllocError, Allocator};
 

@@ -1,7 +1,6 @@
 pub mod AlikeLists
 pub mod HeldRows
 pub mod HeldTables
-pub mod HoldingLists
 pub mod PrefixRows
 pub mod Prefixes
 pub mod WaitingLists

@@ -1,9 +1,5 @@
 pub mod Alike
 pub mod Held
-pub mod Holdings
-pub mod Kept
-pub mod Places
-pub mod PlacesFall
 pub mod PrefixRows
 pub mod Slots
 pub mod Waiting

@@ -1,11 +1,6 @@
-//! What peers were last sent, and what waits for them: Adj-RIB-Out.
+//! What waits for peers, on the way to their Adj-RIBs-Out, and the words for what they were sent (RFC 4271 section 3.2).
 //!
-//! `Holdings` is what all peers hold of one prefix: the attributes that went with it to each peer that was told of it
-//! and that it wasn't withdrawn from since (RFC 4271 section 3.2), each kept once with the slots of those peers, and the
-//! slots whose peers have asked for it again since (RFC 2918). Memory is taken only where a place is made for attributes
-//! that no peer holds yet, before anything changes. The attributes are `SentAttributes`: those that the route came with,
-//! shared with it, beside how they were changed on the way to the peer, which `RecentRewrite` shares among those that were
-//! changed alike. So no octets are kept: they are what is written of the two.
+//! What the peers hold is kept by the crate `holdings` above. Here are its words (`Held`), sets of slots, and:
 //!
 //! `Waiting` is two queues for each slot: the withdrawals that wait for it and the announcements, each in the order of
 //! prefixes, so that the next is found soon. A queue takes memory as it grows. Where that is refused, the slot's queues are
@@ -21,16 +16,10 @@
 #![tactic(auto)]
 
 mod alike;
-mod holdings;
 mod marks;
-mod places;
-mod same;
-mod sent;
 pub mod slots;
 mod waiting;
 
 pub use alike::AlikePrefixes;
-pub use holdings::Holdings;
 pub use marks::Owed;
-pub use sent::{RecentRewrite, SentAttributes};
 pub use waiting::Waiting;

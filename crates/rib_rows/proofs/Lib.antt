@@ -1,5 +1,4 @@
-pub mod Picked
 pub mod RecordTables
-pub mod Retained
 pub mod RowSteps
+pub mod SentSteps
 pub mod SentWalks

@@ -2,12 +2,12 @@
 use Rattle.std.proofs.Common.{◌≡◌, ◌||◌, ℕ, Bool, true, false, cond, List, [], ◌∷◌, All, Option, Some, None, Result, Ok, Err, OnOk, OnErr, IfOk, IfNone, IfSome, IsSome, is_some, option_map, option_and_then, refl, sym, ap, ◌∙◌, subst}
 use Rattle.std.proofs.lemmas.List.Elements.{All-cons, All-nil}
 use Rattle.std.proofs.lemmas.Map.Views.{IfSome-lookup_from_All}
-use Rattle.std.specs.Borrow.{Bor}
+use Rattle.std.specs.Borrow.{Bor, MutBor}
 use Rattle.std.specs.BTreeMap.{is_at}
 use Rattle.std.specs.List.{cons_option}
 use Rattle.std.specs.List.Sorted.{IsStrictlySortedBy}
 use Rattle.std.specs.Map.{remove_entry, set_value, values_of}
-use Rattle.std.specs.Option.{UnwrapsOrElse, option_copied}
+use Rattle.std.specs.Option.{OnSome, UnwrapsOrElse, option_copied}
 use Rattle.std.specs.Ordering.{is_eq}
 use Rattle.net_prefix.specs.PrefixOrder.{prefix_cmp}
 use Rattle.net_prefix.specs.declared.prefix.Prefix.{Prefix}
@@ -17,13 +17,15 @@ use Rattle.bgp_attr.specs.PathAttributes.{PathAttributes}
 use Rattle.decision.specs.BookContents.{rows_of}
 use Rattle.rib_in.proofs.SlotWalks.{some_copied}
 use Rattle.rib_in.specs.LatestRoutes.{listed, route_in, routes_of}
-use Rattle.rib_out.proofs.HoldingLists.{holds_any-none}
+use Rattle.holdings.proofs.HoldingLists.{holds_any-none}
 use Rattle.rib_out.specs.Held.{HeldRoute}
-use Rattle.rib_out.specs.Holdings.{HoldingsState, held_by, holds_any, octets_by}
+use Rattle.holdings.specs.Bounded.{IsCompact}
+use Rattle.holdings.specs.Holdings.{HoldingsState, held_by, holds_any, octets_by}
 use Rattle.rib_out.specs.Slots.{has_slot}
-use Rattle.rib_rows.proofs.Picked.{found_head, map_picked, none_behind, picked_each, picked_found, picked_map, picked_others, picked_rising, picked_stays, picked_twice, same_found, found_removed, found_set}
+use Rattle.prefix_table.specs.Tables.{IsPut}
+use Rattle.prefix_table.proofs.Picked.{found_head, map_picked, none_behind, picked_each, picked_found, picked_map, picked_others, picked_rising, picked_stays, picked_twice, same_found, found_removed, found_set}
 use Rattle.rib_rows.proofs.RowSteps.{none_from, some_there}
-use Rattle.rib_rows.specs.Picked.{picked}
+use Rattle.prefix_table.specs.Picked.{picked}
 use Rattle.rib_rows.specs.PrefixRows.{AreRows, IsRow, PrefixRow, RowTable, adj_in_of, best_of, book_of, route_of}
 use Rattle.rib_rows.specs.Records.{AreRecords, AreSound, IsNeeded, IsRecord, IsSound, PrefixRecord, RecordTable, held_of, routed, row_of, sent_in, sent_of}
 
@@ -98,7 +100,7 @@ rows_routed es are = rows_sound es (sound_records es are)
 
 both : (o : Option PrefixRecord) → IfSome o IsSound → IsNeeded o → IfSome o IsRecord
 both None sound needed = tt
-both (Some r) sound needed = record { row = sound; needed = needed }
+both (Some r) sound needed = record { row = sound; needed = needed.0; compact = needed.1 }
 
 -- records that somebody needs
 pub records_needed : (es : RecordTable) → AreSound es → ((q : Prefix) → IsNeeded (found es q)) → AreRecords es
@@ -106,7 +108,7 @@ records_needed es are needed = (are.0, all_found IsRecord es are.0 (λ q. both (
 
 needed_record : (o : Option PrefixRecord) → IfSome o IsRecord → IsNeeded o
 needed_record None is = tt
-needed_record (Some r) is = is.needed
+needed_record (Some r) is = (is.needed, is.compact)
 
 pub needed_found : (es : RecordTable) → AreRecords es → (q : Prefix) → IsNeeded (found es q)
 needed_found es are q = needed_record (found es q) (each_found IsRecord es are.1 q)
@@ -142,11 +144,9 @@ slot_picked slot (e ∷ es) = slot_case slot e.0 e.1.row (routed es) ∙ ap (λ 
 
 -- ---- a record that changes
 
--- the prefix has this record now, and each other one what it had
-pub record IsPut (old new : RecordTable) (prefix : Prefix) (now : Option PrefixRecord) : Type 0 where
-  pub was_rising : IsRising old
-  pub rising : IsRising new
-  pub puts : (q : Prefix) → found new q ≡ cond (is_eq (prefix_cmp prefix q)) now (found old q)
+-- what a value that was there is written to
+pub through_lent : {X : Type 0} (r : Option (MutBor X)) (b : MutBor X) (P : Type 0) → r ≡ Some b → OnSome r P → P
+through_lent r b P is holds = subst (λ o. OnSome o P) is holds
 
 twice : {X : Type 0} (b : Bool) (x y z : X) → cond b x (cond b y z) ≡ cond b x z
 twice true x y z = refl
@@ -239,20 +239,24 @@ is_there None there none = absurd (cc)
 is_there (Some row) there none = absurd (cc)
 
 -- one with a row
-pub record_routed : (r : PrefixRecord) → IsSound r → IsSome r.row → IsRecord r
-record_routed r sound there = record { row = sound; needed = λ none. is_there r.row there none }
+pub record_routed : (r : PrefixRecord) → IsSound r → IsSome r.row → IsCompact r.sent.holdings → IsRecord r
+record_routed r sound there compact = record { row = sound; needed = λ none. is_there r.row there none; compact = compact }
+
+-- what the peers hold is as it was
+pub compact_same : (was now : PrefixRecord) → IsCompact was.sent.holdings → now.sent ≡ was.sent → IsCompact now.sent.holdings
+compact_same was now compact same = subst (λ h. IsCompact h.holdings) (sym same) compact
 
 -- after a call that either leaves a row there or fails and changes nothing
-pub record_after : {T E : Type 0} (r : Result T E) (P Q : Type 0) (was now : PrefixRecord) → OnOk r (IsSome now.row × P) → OnErr r ((now ≡ was) × Q) → IsRecord was → IsSound now → IsRecord now
-record_after (Ok x) P Q was now there same is sound = record_routed now sound there.0
-record_after (Err e) P Q was now there same is sound = subst IsRecord (sym same.0) is
+pub record_after : {T E : Type 0} (r : Result T E) (P Q : Type 0) (was now : PrefixRecord) → OnOk r (IsSome now.row × P) → OnErr r ((now ≡ was) × Q) → IsRecord was → IsSound now → now.sent ≡ was.sent → IsRecord now
+record_after (Ok x) P Q was now there same is sound sent = record_routed now sound there.0 (compact_same was now is.compact sent)
+record_after (Err e) P Q was now there same is sound sent = subst IsRecord (sym same.0) is
 
 -- after one that fails, answers something, or leaves a row there
 pub record_brought : {T E : Type 0} (r : Result (Option T) E) (was now : PrefixRecord) → IfOk r (λ back. IfNone back (IsSome now.row)) → IfOk r (λ back. IfSome back (λ x. now ≡ was)) → OnErr r (now ≡ was) → IsRecord was → (IsSound was → IsSound now)
-    → IsRecord now
-record_brought (Ok None) was now brought back same is sound = record_routed now (sound is.row) brought
-record_brought (Ok (Some x)) was now brought back same is sound = subst IsRecord (sym back) is
-record_brought (Err e) was now brought back same is sound = subst IsRecord (sym same) is
+    → now.sent ≡ was.sent → IsRecord now
+record_brought (Ok None) was now brought back same is sound sent = record_routed now (sound is.row) brought (compact_same was now is.compact sent)
+record_brought (Ok (Some x)) was now brought back same is sound sent = subst IsRecord (sym back) is
+record_brought (Err e) was now brought back same is sound sent = subst IsRecord (sym same) is
 
 -- the routes of a row are as they were
 rows_case : (o p : Option PrefixRow) → option_map (λ r. r.routes) o ≡ option_map (λ r. r.routes) p → p ≡ None → o ≡ None
@@ -264,22 +268,23 @@ pub record_changed : (was now : PrefixRecord) → IsRecord was → IsSound now �
 record_changed was now is sound same sent = record {
   row = sound;
   needed = λ none. ap holds_any sent ∙ is.needed (rows_case was.row now.row (sym same) none);
+  compact = compact_same was now is.compact sent;
 }
 
 -- the row is as it was
 pub sound_kept : (was now : PrefixRecord) → IsSound was → now.row ≡ was.row → IsSound now
 sound_kept was now is same = subst (λ o. IfSome o IsRow) (sym same) is
 
-pub record_kept : (was now : PrefixRecord) → IsRecord was → now.row ≡ was.row → holds_any now.sent ≡ holds_any was.sent → IsRecord now
-record_kept was now is same any = record { row = sound_kept was now is.row same; needed = λ none. any ∙ is.needed (sym same ∙ none) }
+pub record_kept : (was now : PrefixRecord) → IsRecord was → now.row ≡ was.row → holds_any now.sent ≡ holds_any was.sent → now.sent.holdings ≡ was.sent.holdings → IsRecord now
+record_kept was now is same any stays = record { row = sound_kept was now is.row same; needed = λ none. any ∙ is.needed (sym same ∙ none); compact = subst IsCompact (sym stays) is.compact }
 
 or_needed : (o : Option PrefixRow) (h : Bool) → (is_some o || h) ≡ true → o ≡ None → h ≡ true
 or_needed None h is none = is
 or_needed (Some row) h is none = absurd (cc)
 
 -- somebody needs it
-pub record_needed : (r : PrefixRecord) (b : Bool) → IsSound r → b ≡ (is_some r.row || holds_any r.sent) → b ≡ true → IsRecord r
-record_needed r b sound is needed = record { row = sound; needed = or_needed r.row (holds_any r.sent) (sym is ∙ needed) }
+pub record_needed : (r : PrefixRecord) (b : Bool) → IsSound r → b ≡ (is_some r.row || holds_any r.sent) → b ≡ true → IsCompact r.sent.holdings → IsRecord r
+record_needed r b sound is needed compact = record { row = sound; needed = or_needed r.row (holds_any r.sent) (sym is ∙ needed); compact = compact }
 
 -- nobody does
 pub row_unneeded : (r : PrefixRecord) (b : Bool) → b ≡ (is_some r.row || holds_any r.sent) → b ≡ false → r.row ≡ None

@@ -5,8 +5,9 @@ use Rattle.std.specs.Option.{option_and_then}
 use Rattle.net_prefix.specs.declared.prefix.Prefix.{Prefix}
 use Rattle.prefix_trie.specs.TrieMap.{IsRising}
 use Rattle.rib_out.specs.Held.{HeldRoute}
-use Rattle.rib_out.specs.Holdings.{HoldingsState, IsReady, held_by, holds_any}
-use Rattle.rib_rows.specs.Picked.{picked}
+use Rattle.holdings.specs.Bounded.{IsCompact}
+use Rattle.holdings.specs.Holdings.{HoldingsState, IsReady, held_by, holds_any}
+use Rattle.prefix_table.specs.Picked.{picked}
 use Rattle.rib_rows.specs.PrefixRows.{IsRow, PrefixRow, RowTable}
 
 -- all that is kept of a prefix: its row, where there are routes, and what the peers hold
@@ -34,10 +35,11 @@ sent_of table = picked sent_in table
 abbrev pub IsSound : PrefixRecord → Type 0
 IsSound r = IfSome r.row IsRow
 
--- and there is one, or some peer holds the prefix
+-- and there is one, or some peer holds the prefix; no attributes are kept that no peer holds
 pub record IsRecord (r : PrefixRecord) : Type 0 where
   pub row : IfSome r.row IsRow
   pub needed : r.row ≡ None → holds_any r.sent ≡ true
+  pub compact : IsCompact r.sent.holdings
 
 -- what holds of the records
 abbrev pub AreRecords : RecordTable → Type 0
@@ -55,9 +57,9 @@ row_of o = option_and_then (λ r. r.row) o
 abbrev pub held_of : Option PrefixRecord → ℕ → Option HeldRoute
 held_of o slot = option_and_then (λ r. held_by r.sent slot) o
 
--- somebody needs the record of a prefix, if there is one
+-- somebody needs the record of a prefix, if there is one, and all attributes in it
 abbrev pub IsNeeded : Option PrefixRecord → Type 0
-IsNeeded o = IfSome o (λ r. r.row ≡ None → holds_any r.sent ≡ true)
+IsNeeded o = IfSome o (λ r. (r.row ≡ None → holds_any r.sent ≡ true) × IsCompact r.sent.holdings)
 
 -- a slot that holds these octets of a prefix from now on takes no memory
 abbrev pub IsPrepared : List ℕ → Option PrefixRecord → Type 0

@@ -14,8 +14,8 @@ mod sent_map;
 
 pub use record::Record;
 pub use record_map::{
-    RecordMap, announce_in, bring_in, change_in, first_best, first_of_slot, first_routed,
-    withdraw_in,
+    RecordMap, RecordRange, announce_in, bring_in, change_in, first_best, first_of_slot,
+    first_routed, withdraw_in,
 };
 pub use row::Row;
 pub use sent_map::{ask_in, clear_in, drop_in, first_held, hold_in, ready_in, renew_in, tidy_in};

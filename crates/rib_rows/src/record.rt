@@ -2,7 +2,8 @@
 ghost use Rattle.std.specs.Prelude.{◌≡◌, ◌≢◌, ◌<◌, ◌≤◌, ◌+◌, ◌-◌, ◌^◌, ◌==◌, ◌||◌, ℕ, None, Some, true, false, All, IfNone, IfOk, IfSome, IsSome, OnErr, OnOk, is_some, min, option_map, if◌then◌else◌};
 ghost use Rattle.std.specs.Option.{option_copied};
 ghost use Rattle.decision.specs.BookContents.{AreApart, changed};
-ghost use Rattle.rib_out.specs.Holdings.{IsReady, held_by, holds_any, octets_by};
+ghost use Rattle.holdings.specs.Bounded.{IsCompact};
+ghost use Rattle.holdings.specs.Holdings.{IsReady, held_by, holds_any, octets_by};
 ghost use Rattle.rib_out.specs.Slots.{has_slot};
 ghost use Rattle.rib_rows.specs.PrefixRows.{IsRow, best_of, first_route, offer_of, route_of};
 ghost use Rattle.rib_rows.specs.Records.{IsSound, asked_again, renewed};
@@ -10,7 +11,7 @@ ghost use Rattle.rib_rows.specs.Records.{IsSound, asked_again, renewed};
 use crate::row::Row;
 use bgp_attr::Attrs;
 use decision::{Book, Candidate, Change, Meter};
-use rib_out::{Holdings, SentAttributes};
+use holdings::{Holdings, SentAttributes};
 use std::alloc::{AllocError, Allocator};
 use std::marker::Model;
 use std::rc::Rc;
@@ -35,6 +36,7 @@ impl<A: Allocator + Clone, B: Book<A>> Record<A, B> {
     pub(crate) fn new() -> Self
         ensures row { result.row ≡ None }
         ensures sent { holds_any result.sent ≡ false }
+        ensures compact { IsCompact result.sent.holdings }
     {
         Record {
             row: None,
@@ -46,6 +48,7 @@ impl<A: Allocator + Clone, B: Book<A>> Record<A, B> {
     pub(crate) fn of(alloc: &A, slot: u8, attrs: Rc<Attrs<A>, A>) -> Result<Self, AllocError>
         ensures row { IfOk result (λ r. r.row ≡ Some (first_route slot attrs.value)) }
         ensures sent { IfOk result (λ r. holds_any r.sent ≡ false) }
+        ensures compact { IfOk result (λ r. IsCompact r.sent.holdings) }
     {
         let row = Row::of(alloc, slot, attrs)?;
         Ok(Record {
@@ -275,6 +278,7 @@ impl<A: Allocator + Clone, B: Book<A>> Record<A, B> {
         ensures held { (s : ℕ) → held_by self.new.sent s ≡ (if s == slot then Some (record { octets = sent.now; asked = false }) else held_by self.old.sent s) }
         ensures ready { IsReady sent.now self.new.sent }
         ensures any { holds_any self.new.sent ≡ true }
+        ensures compact { IsCompact self.new.sent.holdings }
         ensures row { self.new.row ≡ self.old.row }
     {
         self.sent.hold(slot, sent);
@@ -284,6 +288,7 @@ impl<A: Allocator + Clone, B: Book<A>> Record<A, B> {
     pub(crate) fn drop_slot(&mut self, slot: u8)
         requires { slot < 64 }
         ensures held { (s : ℕ) → held_by self.new.sent s ≡ (if s == slot then None else held_by self.old.sent s) }
+        ensures compact { IsCompact self.new.sent.holdings }
         ensures row { self.new.row ≡ self.old.row }
     {
         self.sent.drop_slot(slot);
@@ -294,6 +299,7 @@ impl<A: Allocator + Clone, B: Book<A>> Record<A, B> {
         requires { slot < 64 }
         ensures held { (s : ℕ) → held_by self.new.sent s ≡ (if s == slot then option_map renewed (held_by self.old.sent s) else held_by self.old.sent s) }
         ensures any { holds_any self.new.sent ≡ holds_any self.old.sent }
+        ensures stays { self.new.sent.holdings ≡ self.old.sent.holdings }
         ensures row { self.new.row ≡ self.old.row }
     {
         self.sent.renew(slot);
@@ -304,6 +310,7 @@ impl<A: Allocator + Clone, B: Book<A>> Record<A, B> {
         requires { slot < 64 }
         ensures held { (s : ℕ) → held_by self.new.sent s ≡ (if s == slot then option_map asked_again (held_by self.old.sent s) else held_by self.old.sent s) }
         ensures any { holds_any self.new.sent ≡ holds_any self.old.sent }
+        ensures stays { self.new.sent.holdings ≡ self.old.sent.holdings }
         ensures row { self.new.row ≡ self.old.row }
     {
         self.sent.ask(slot);
@@ -313,6 +320,7 @@ impl<A: Allocator + Clone, B: Book<A>> Record<A, B> {
     pub(crate) fn tidy(&mut self)
         ensures held { (s : ℕ) → held_by self.new.sent s ≡ held_by self.old.sent s }
         ensures any { holds_any self.new.sent ≡ holds_any self.old.sent }
+        ensures compact { IsCompact self.new.sent.holdings }
         ensures row { self.new.row ≡ self.old.row }
     {
         self.sent.tidy();

@@ -12,13 +12,15 @@ use crate::record::Record;
 use bgp_attr::Attrs;
 use decision::{Book, Candidate, Change, Meter};
 use net_prefix::Prefix;
+use prefix_table::{PrefixTable, Range};
 use std::alloc::{AllocError, Allocator};
-use std::collections::btree_map::Entry;
-use std::collections::{BTreeMap, btree_map};
 use std::rc::Rc;
 
 /// The records by prefix.
-pub type RecordMap<A, B> = BTreeMap<Prefix, Record<A, B>, A>;
+pub type RecordMap<A, B> = PrefixTable<Record<A, B>, A>;
+
+/// The records of a stretch of prefixes.
+pub type RecordRange<'a, A, B> = Range<'a, Record<A, B>, A>;
 
 /// The slot has this route to the prefix from now on, which makes this candidate.
 pub fn announce_in<A: Allocator + Clone, B: Book<A>>(
@@ -45,17 +47,15 @@ pub fn announce_in<A: Allocator + Clone, B: Book<A>>(
     ensures made { OnOk result (offer_of (found (routed rows.old.entries) prefix) slot ≢ candidate → meter.new.count ≡ min (meter.old.count + 1) (2 ^ 64 - 1)) }
     ensures sent { sent_of rows.new.entries ≡ sent_of rows.old.entries }
 {
-    match rows.entry(prefix) {
-        Ok(Entry::Occupied(entry)) => entry
-            .into_mut()
-            .announce(alloc, meter, slot, attrs, candidate),
-        Ok(vacant) => {
-            let record = vacant.or_try_insert_with(|| Record::of(alloc, slot, attrs))?;
-            record.offer(meter, slot, candidate);
-            Ok(())
-        }
-        Err(_) => Err(AllocError),
+    if let Some(record) = rows.get_mut(prefix) {
+        return record.announce(alloc, meter, slot, attrs, candidate);
     }
+    let record = Record::of(alloc, slot, attrs)?;
+    rows.insert(prefix, record)?;
+    if let Some(record) = rows.get_mut(prefix) {
+        record.offer(meter, slot, candidate);
+    }
+    Ok(())
 }
 
 /// A slot without a route to the prefix has this one from now on, which makes no candidate yet. Where it has one nothing
@@ -78,14 +78,12 @@ pub fn bring_in<A: Allocator + Clone, B: Book<A>>(
     ensures lacked { OnErr result (route_of (found (routed rows.old.entries) prefix) slot ≡ None) }
     ensures sent { sent_of rows.new.entries ≡ sent_of rows.old.entries }
 {
-    match rows.entry(prefix) {
-        Ok(Entry::Occupied(entry)) => entry.into_mut().bring(alloc, slot, attrs),
-        Ok(vacant) => {
-            vacant.or_try_insert_with(|| Record::of(alloc, slot, attrs))?;
-            Ok(None)
-        }
-        Err(_) => Err(AllocError),
+    if let Some(record) = rows.get_mut(prefix) {
+        return record.bring(alloc, slot, attrs);
     }
+    let record = Record::of(alloc, slot, attrs)?;
+    rows.insert(prefix, record)?;
+    Ok(None)
 }
 
 /// Makes these changes of candidates of the routes to the prefix.
@@ -109,7 +107,7 @@ pub fn change_in<A: Allocator + Clone, B: Book<A>>(
     ensures made { (s : ℕ) → changed changes.now s (offer_of (found (routed rows.old.entries) prefix) s) ≢ offer_of (found (routed rows.old.entries) prefix) s → meter.new.count ≡ min (meter.old.count + 1) (2 ^ 64 - 1) }
     ensures sent { sent_of rows.new.entries ≡ sent_of rows.old.entries }
 {
-    let Some(record) = rows.get_mut(&prefix) else {
+    let Some(record) = rows.get_mut(prefix) else {
         return;
     };
     record.change(meter, changes);
@@ -133,25 +131,24 @@ pub fn withdraw_in<A: Allocator + Clone, B: Book<A>>(
     ensures gone { offer_of (found (routed rows.old.entries) prefix) slot ≢ None → meter.new.count ≡ min (meter.old.count + 1) (2 ^ 64 - 1) }
     ensures sent { sent_of rows.new.entries ≡ sent_of rows.old.entries }
 {
-    // `entry` would take memory where the prefix isn't there.
-    let Some(record) = rows.get_mut(&prefix) else {
+    let Some(record) = rows.get_mut(prefix) else {
         return;
     };
     record.withdraw(meter, slot);
     if !record.is_needed() {
-        rows.remove(&prefix);
+        rows.remove(prefix);
     }
 }
 
 /// The first prefix of a range to which some slot has a route.
 pub fn first_routed<A: Allocator + Clone, B: Book<A>>(
-    range: btree_map::Range<'_, Prefix, Record<A, B>>,
+    range: RecordRange<'_, A, B>,
 ) -> Option<Prefix>
     ensures { result ≡ first_key (routed range.entry) }
 {
     for (prefix, record) in range {
         if record.is_routed() {
-            return Some(*prefix);
+            return Some(prefix);
         }
     }
     None
@@ -159,14 +156,14 @@ pub fn first_routed<A: Allocator + Clone, B: Book<A>>(
 
 /// The first prefix of a range to which the slot has a route.
 pub fn first_of_slot<A: Allocator + Clone, B: Book<A>>(
-    range: btree_map::Range<'_, Prefix, Record<A, B>>,
+    range: RecordRange<'_, A, B>,
     slot: u8,
 ) -> Option<Prefix>
     ensures { result ≡ first_key (routes_of slot (adj_in_of (routed range.entry))) }
 {
     for (prefix, record) in range {
         if record.get(slot).is_some() {
-            return Some(*prefix);
+            return Some(prefix);
         }
     }
     None
@@ -174,13 +171,13 @@ pub fn first_of_slot<A: Allocator + Clone, B: Book<A>>(
 
 /// The first best route of a range.
 pub fn first_best<A: Allocator + Clone, B: Book<A>>(
-    range: btree_map::Range<'_, Prefix, Record<A, B>>,
+    range: RecordRange<'_, A, B>,
 ) -> Option<(Prefix, Candidate)>
     ensures { result ≡ slice_get (rows_of (book_of (routed range.entry))) 0 }
 {
     for (prefix, record) in range {
         if let Some(best) = record.best() {
-            return Some((*prefix, best));
+            return Some((prefix, best));
         }
     }
     None

@@ -1,20 +1,19 @@
 //! The records by prefix: what the peers hold.
-ghost use Rattle.std.specs.Prelude.{◌≡◌, ◌<◌, ◌==◌, ℕ, None, Some, false, OnOk, option_map, if◌then◌else◌};
+ghost use Rattle.std.specs.Prelude.{◌≡◌, ◌<◌, ◌^◌, ◌==◌, ℕ, None, Some, false, IfSome, OnOk, option_map, if◌then◌else◌};
 ghost use Rattle.decision.specs.BookContents.{is_prefix};
 ghost use Rattle.net_prefix.specs.declared.prefix.Prefix.{Prefix as ThePrefix};
 ghost use Rattle.prefix_trie.specs.TrieMap.{found};
 ghost use Rattle.prefix_trie.specs.TrieWalks.{first_key};
-ghost use Rattle.rib_out.specs.Holdings.{held_by};
-ghost use Rattle.rib_rows.specs.Picked.{picked};
+ghost use Rattle.holdings.specs.Holdings.{held_by};
+ghost use Rattle.prefix_table.specs.Picked.{picked};
 ghost use Rattle.rib_rows.specs.Records.{AreRecords, AreSound, IsNeeded, IsPrepared, asked_again, held_of, renewed, routed};
 
 use crate::record::Record;
-use crate::record_map::RecordMap;
+use crate::record_map::{RecordMap, RecordRange};
 use decision::Book;
+use holdings::SentAttributes;
 use net_prefix::Prefix;
-use rib_out::SentAttributes;
 use std::alloc::{AllocError, Allocator};
-use std::collections::btree_map;
 
 /// The slot's peer holds nothing.
 pub fn clear_in<A: Allocator + Clone, B: Book<A>>(rows: &mut RecordMap<A, B>, slot: u8)
@@ -24,10 +23,12 @@ pub fn clear_in<A: Allocator + Clone, B: Book<A>>(rows: &mut RecordMap<A, B>, sl
     ensures routed { (p : ThePrefix) → found (routed rows.new.entries) p ≡ found (routed rows.old.entries) p }
     ensures held { (p : ThePrefix) (s : ℕ) → held_of (found rows.new.entries p) s ≡ (if s == slot then None else held_of (found rows.old.entries p) s) }
 {
-    rows.retain(|_, record| {
-        record.drop_slot(slot);
-        record.is_needed()
-    });
+    let mut after = None;
+    while let Some(prefix) = first_of(rows.range_after(after)) {
+        drop_in(rows, slot, prefix);
+        // Places rise, so the walk ends.
+        after = Some(prefix);
+    }
 }
 
 /// The slot's peer asks again for all that it holds (RFC 2918 section 4).
@@ -38,11 +39,43 @@ pub fn ask_in<A: Allocator + Clone, B: Book<A>>(rows: &mut RecordMap<A, B>, slot
     ensures routed { (p : ThePrefix) → found (routed rows.new.entries) p ≡ found (routed rows.old.entries) p }
     ensures held { (p : ThePrefix) (s : ℕ) → held_of (found rows.new.entries p) s ≡ (if s == slot then option_map asked_again (held_of (found rows.old.entries p) s) else held_of (found rows.old.entries p) s) }
 {
-    rows.retain(|_, record| {
-        record.ask(slot);
-        true
-    });
+    let mut after = None;
+    while let Some(prefix) = first_of(rows.range_after(after)) {
+        ask_at(rows, slot, prefix);
+        // Places rise, so the walk ends.
+        after = Some(prefix);
+    }
 }
+
+// The slot's peer asks for the prefix again, if it holds it.
+fn ask_at<A: Allocator + Clone, B: Book<A>>(rows: &mut RecordMap<A, B>, slot: u8, prefix: Prefix)
+    requires slot { slot < 64 }
+    requires rows { AreRecords rows.old.entries }
+    ensures rows { AreRecords rows.new.entries }
+    ensures others { (p : ThePrefix) → is_prefix prefix p ≡ false → found rows.new.entries p ≡ found rows.old.entries p }
+    ensures routed { (p : ThePrefix) → found (routed rows.new.entries) p ≡ found (routed rows.old.entries) p }
+    ensures held { (s : ℕ) → held_of (found rows.new.entries prefix) s ≡ (if s == slot then option_map asked_again (held_of (found rows.old.entries prefix) s) else held_of (found rows.old.entries prefix) s) }
+{
+    let Some(record) = rows.get_mut(prefix) else {
+        return;
+    };
+    record.ask(slot);
+}
+
+// The first prefix of a range.
+fn first_of<A: Allocator + Clone, B: Book<A>>(mut range: RecordRange<'_, A, B>) -> Option<Prefix>
+    ensures first { result ≡ first_key range.entry }
+    ensures address { IfSome result (λ p. p.bits < 2 ^ 32) }
+{
+    let (prefix, _) = range.next()?;
+    is_address(prefix.bits);
+    Some(prefix)
+}
+
+// An address has 32 bits.
+fn is_address(bits: u32)
+    ensures { bits < 2 ^ 32 }
+{}
 
 /// The slot's peer holds the prefix no more. The record goes where nobody needs it.
 pub fn drop_in<A: Allocator + Clone, B: Book<A>>(
@@ -57,12 +90,12 @@ pub fn drop_in<A: Allocator + Clone, B: Book<A>>(
     ensures routed { (p : ThePrefix) → found (routed rows.new.entries) p ≡ found (routed rows.old.entries) p }
     ensures held { (s : ℕ) → held_of (found rows.new.entries prefix) s ≡ (if s == slot then None else held_of (found rows.old.entries prefix) s) }
 {
-    let Some(record) = rows.get_mut(&prefix) else {
+    let Some(record) = rows.get_mut(prefix) else {
         return;
     };
     record.drop_slot(slot);
     if !record.is_needed() {
-        rows.remove(&prefix);
+        rows.remove(prefix);
     }
 }
 
@@ -79,7 +112,7 @@ pub fn renew_in<A: Allocator + Clone, B: Book<A>>(
     ensures routed { (p : ThePrefix) → found (routed rows.new.entries) p ≡ found (routed rows.old.entries) p }
     ensures held { (s : ℕ) → held_of (found rows.new.entries prefix) s ≡ (if s == slot then option_map renewed (held_of (found rows.old.entries prefix) s) else held_of (found rows.old.entries prefix) s) }
 {
-    let Some(record) = rows.get_mut(&prefix) else {
+    let Some(record) = rows.get_mut(prefix) else {
         return;
     };
     record.renew(slot);
@@ -99,12 +132,12 @@ pub fn ready_in<A: Allocator + Clone, B: Book<A>>(
     ensures held { (s : ℕ) → held_of (found rows.new.entries prefix) s ≡ held_of (found rows.old.entries prefix) s }
     ensures ready { OnOk result (IsPrepared sent.now (found rows.new.entries prefix)) }
 {
-    match rows.entry(prefix) {
-        Ok(entry) => entry
-            .or_insert_with(|| Record::new())
-            .make_ready(alloc, sent),
-        Err(_) => Err(AllocError),
+    if let Some(record) = rows.get_mut(prefix) {
+        return record.make_ready(alloc, sent);
     }
+    let mut record = Record::new();
+    record.make_ready(alloc, sent)?;
+    rows.insert(prefix, record)
 }
 
 /// The slot's peer holds these attributes of the prefix from now on, which have a place, and hasn't asked for them again.
@@ -124,7 +157,7 @@ pub fn hold_in<A: Allocator + Clone, B: Book<A>>(
     ensures ready { IsPrepared sent.now (found rows.new.entries prefix) }
     ensures needed { IsNeeded (found rows.new.entries prefix) }
 {
-    let Some(record) = rows.get_mut(&prefix) else {
+    let Some(record) = rows.get_mut(prefix) else {
         return;
     };
     record.hold(slot, sent);
@@ -139,18 +172,18 @@ pub fn tidy_in<A: Allocator + Clone, B: Book<A>>(rows: &mut RecordMap<A, B>, pre
     ensures held { (s : ℕ) → held_of (found rows.new.entries prefix) s ≡ held_of (found rows.old.entries prefix) s }
     ensures needed { IsNeeded (found rows.new.entries prefix) }
 {
-    let Some(record) = rows.get_mut(&prefix) else {
+    let Some(record) = rows.get_mut(prefix) else {
         return;
     };
     record.tidy();
     if !record.is_needed() {
-        rows.remove(&prefix);
+        rows.remove(prefix);
     }
 }
 
 /// The first prefix of a range that the slot's peer holds.
 pub fn first_held<A: Allocator + Clone, B: Book<A>>(
-    range: btree_map::Range<'_, Prefix, Record<A, B>>,
+    range: RecordRange<'_, A, B>,
     slot: u8,
 ) -> Option<Prefix>
     requires { slot < 64 }
@@ -158,7 +191,7 @@ pub fn first_held<A: Allocator + Clone, B: Book<A>>(
 {
     for (prefix, record) in range {
         if record.held(slot).is_some() {
-            return Some(*prefix);
+            return Some(prefix);
         }
     }
     None

@@ -29,10 +29,10 @@ use bgp_conf::Conf;
 use bgp_peer::Peer;
 use decision::Book;
 use export_rules::ExportPeer;
+use holdings::RecentRewrite;
 use loc_rib::{AdjOut, Rows, SlotRoutes};
 use net_prefix::{Asn, Prefix};
 use origin_valid::PayloadTrie;
-use rib_out::RecentRewrite;
 use routing::{
     Links, Octets, Routing, WaitingPrefixes, choose_touched, export, export_peer, slots_end,
 };

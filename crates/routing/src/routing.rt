@@ -51,6 +51,8 @@ pub struct Routing<A: Allocator + Clone, B: Book<A>> {
     pub(crate) ribs: Ribs<A, B>,
     waiting: Waiting<A>,
     alike: AlikePrefixes<A>,
+    // What is exported of a prefix while it is marked.
+    exported: Octets,
 }
 
 impl<A: Allocator + Clone, B: Book<A>> Model for Routing<A, B> {
@@ -77,6 +79,7 @@ impl<A: Allocator + Clone, B: Book<A>> Routing<A, B> {
             ribs,
             waiting,
             alike,
+            exported: Octets::new(),
         })
     }
 
@@ -514,6 +517,7 @@ impl<A: Allocator + Clone, B: Book<A>> Routing<A, B> {
             conf,
             links,
             prefix,
+            &mut self.exported,
         );
     }
 
@@ -568,11 +572,11 @@ fn mark_each<A: Allocator + Clone, B: Book<A>>(
     conf: &Conf<A>,
     links: &Links<A>,
     prefix: Prefix,
+    octets: &mut Octets,
 )
     requires { AreMarkedButIn prefix conf.now links.now.entries (with_waiting ribs.now waiting.old alike.old) }
     ensures { AreMarkedIn conf.now links.now.entries (with_waiting ribs.now waiting.new alike.new) }
 {
-    let mut octets = Octets::new();
     let chosen = chosen_route(ribs, prefix);
     for slot in 0..slots_end(links) {
         let owed = list(
@@ -583,7 +587,7 @@ fn mark_each<A: Allocator + Clone, B: Book<A>>(
             slot,
             prefix,
             chosen.as_ref(),
-            &mut octets,
+            octets,
         );
         waiting.set(slot, prefix, owed);
     }

@@ -21,9 +21,9 @@ use bgp_msg::{write_announcement, write_withdrawal};
 use bgp_peer::Peer;
 use decision::Book;
 use export_rules::ExportPeer;
+use holdings::RecentRewrite;
 use loc_rib::{AdjOut, Ribs};
 use net_prefix::Prefix;
-use rib_out::RecentRewrite;
 use std::alloc::{AllocError, Allocator};
 
 /// Tells an Established peer that these prefixes are withdrawn: an UPDATE of it is queued, and the peer doesn't hold them

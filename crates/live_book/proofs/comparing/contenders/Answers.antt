@@ -2,14 +2,14 @@ use Rattle.std.proofs.Common.{◌≡◌, ◌++◌, ◌∷◌, [], List, take, ap
 use Rattle.std.specs.List.{cons_option}
 use Rattle.std.proofs.lemmas.List.{append-nil}
 use Rattle.decision.specs.declared.candidate.Candidate.{Candidate}
-use Rattle.live_book.specs.NeighborBests.{empty_place, contender, contenders_of}
-use Rattle.live_book.proofs.PlaceBests.{length_next, length_same, picked_next}
+use Rattle.live_book.specs.NeighborBests.{contender, contenders_of}
+use Rattle.live_book.proofs.PlaceBests.{length_next, length_same, picked_here}
 use Rattle.live_book.proofs.comparing.contenders.Goals as goal
 use Rattle.live_book.proofs.comparing.contenders.Goals.{in-Some, in_default}
 
 pub loop-place-preserved : goal.loop-place-preserved
 loop-place-preserved c =
-    let next = picked_next (contender c.args.round) c.args.places.now c.loop-place.place-index (empty_place 0) (omega arith) in
+    let next = picked_here (contender c.args.round) c.args.places.now c.loop-place.place-index c.place-item.result (omega arith) c.place-item.is in
     elim c.match-contender.branch [
       | in-Some w ↦
           let is : c.match-contender.candidates.items ≡ c.loop-place.candidates.items ++ w.in-Some.candidate ∷ [] = ap (λ v. v.items) w.candidates-is ∙ w.push.ensures.items in

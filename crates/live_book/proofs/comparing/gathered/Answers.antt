@@ -4,8 +4,8 @@ use Rattle.std.proofs.lemmas.List.{append-nil}
 use Rattle.decision.specs.declared.candidate.Candidate.{Candidate}
 use Rattle.live_book.specs.declared.comparing.Few.{Few}
 use Rattle.live_book.specs.declared.comparing.Few.TheVariants.{Nobody, One, Two, Many}
-use Rattle.live_book.specs.NeighborBests.{AreFew, empty_place, contender, contenders_of, few_with}
-use Rattle.live_book.proofs.PlaceBests.{picked_next}
+use Rattle.live_book.specs.NeighborBests.{AreFew, contender, contenders_of, few_with}
+use Rattle.live_book.proofs.PlaceBests.{picked_here}
 use Rattle.live_book.proofs.comparing.gathered.Goals as goal
 use Rattle.live_book.proofs.comparing.gathered.Goals.{in-Some, in_default}
 
@@ -17,7 +17,7 @@ one_more Many cs e are = tt
 
 pub loop-place-preserved : goal.loop-place-preserved
 loop-place-preserved c =
-    let next = picked_next (contender c.args.round) c.args.places.now c.loop-place.place-index (empty_place 0) (omega arith) in
+    let next = picked_here (contender c.args.round) c.args.places.now c.loop-place.place-index c.place-item.result (omega arith) c.place-item.is in
     let found : Option Candidate → List Candidate = λ o. contenders_of c.args.round (take c.loop-place.place-index c.args.places.now) ++ cons_option o [] in
     elim c.match-contender.branch [
       | in-Some w ↦

@@ -1,14 +1,14 @@
 use Rattle.std.proofs.Common.{◌≡◌, ℕ, ◌++◌, ◌∷◌, [], List, take, ap, sym, ◌∙◌, arith}
 use Rattle.std.specs.List.{cons_option}
 use Rattle.std.proofs.lemmas.List.{append-nil}
-use Rattle.live_book.specs.NeighborBests.{empty_place, opened_by, opened_of}
-use Rattle.live_book.proofs.PlaceBests.{length_next, length_same, picked_next}
+use Rattle.live_book.specs.NeighborBests.{opened_by, opened_of}
+use Rattle.live_book.proofs.PlaceBests.{length_next, length_same, picked_here}
 use Rattle.live_book.proofs.comparing.opened.Goals as goal
 use Rattle.live_book.proofs.comparing.opened.Goals.{in-Some, in_default}
 
 pub loop-place-preserved : goal.loop-place-preserved
 loop-place-preserved c =
-    let next = picked_next (opened_by c.args.changes.now) c.args.places.now c.loop-place.place-index (empty_place 0) (omega arith) in
+    let next = picked_here (opened_by c.args.changes.now) c.args.places.now c.loop-place.place-index c.place-item.result (omega arith) c.place-item.is in
     elim c.match-opened_by.branch [
       | in-Some w ↦
           let is : c.match-opened_by.neighbors.items ≡ c.loop-place.neighbors.items ++ w.in-Some.neighbor ∷ [] = ap (λ v. v.items) w.neighbors-is ∙ w.push.ensures.items in

@@ -1,10 +1,9 @@
-use Rattle.std.proofs.Common.{IsTrue, subst, ◌∙◌, arith}
-use Rattle.live_book.specs.NeighborBests.{empty_place}
-use Rattle.live_book.proofs.PlaceBests.{idle_at}
+use Rattle.std.proofs.Common.{IsTrue, subst, arith}
+use Rattle.live_book.proofs.PlaceBests.{idle_here}
 use Rattle.live_book.proofs.places.are_idle.Goals as goal
 
-pub returns-then-not-is_same : goal.returns-then-not-is_same
-returns-then-not-is_same c = (
+pub returns-then-not-is_idle : goal.returns-then-not-is_idle
+returns-then-not-is_idle c = (
   λ t. cc,
-  λ same. subst IsTrue c.if-not-is_same.true (c.is_same.ensures.1 (c.after.ensures ∙ idle_at c.args.changes.now c.args.places.now c.loop-place.place-index (empty_place 0) (omega arith) same)),
+  λ same. subst IsTrue c.if-not-is_idle.true (c.is_idle.ensures.1 (idle_here c.args.changes.now c.args.places.now c.loop-place.place-index c.place-item.result (omega arith) c.place-item.is same)),
 )

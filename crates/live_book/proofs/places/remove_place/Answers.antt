@@ -1,6 +1,6 @@
 use Rattle.std.proofs.Common.{not, nat_eq, rules}
 use Rattle.std.proofs.lemmas.Fn.{filter_same}
-use Rattle.live_book.specs.declared.place.Place.{Place}
+use Rattle.live_book.specs.Places.{Place}
 use Rattle.live_book.proofs.places.remove_place.Goals as goal
 
 pub returns : goal.returns

@@ -1,8 +1,9 @@
 use Rattle.std.proofs.Common.{◌≡◌, All, None, Some, option_map, option_and_then, ap, sym, subst, ◌∙◌}
 use Rattle.std.specs.Option.{IsSome, option_copied_mut}
 use Rattle.decision.specs.BookContents.{AreApart, changed}
+use Rattle.prefix_table.specs.Tables.{IsPut}
 use Rattle.prefix_trie.specs.TrieMap.{found}
-use Rattle.rib_rows.proofs.RecordTables.{IsPut, record_changed, record_found, records_put, routes_picked, row_found, row_lacking, row_others, row_there, same_read, same_sent, sent_same, written}
+use Rattle.rib_rows.proofs.RecordTables.{record_changed, record_found, records_put, routes_picked, row_found, row_lacking, row_others, row_there, same_read, same_sent, sent_same, through_lent}
 use Rattle.rib_rows.proofs.RowSteps.{offers_unplaced}
 use Rattle.rib_rows.specs.PrefixRows.{best_of, offer_of, route_of}
 use Rattle.rib_rows.specs.Records.{PrefixRecord, routed, sent_in}
@@ -13,7 +14,7 @@ use Rattle.rib_rows.proofs.record_map.change_in.Goals.{After-rows-2-1}
 pub returns-in_default-clause-offers : goal.returns-in_default-clause-offers
 returns-in_default-clause-offers g c = λ s.
     let none : found c.args.rows.now.entries c.args.prefix ≡ None = sym c.get_mut.ensures.value ∙ ap option_copied_mut c.in_default.is in
-    ap (λ m. offer_of (found (routed m.entries) c.args.prefix) s) c.get_mut.follows.holds-at-none
+    ap (λ es. offer_of (found (routed es) c.args.prefix) s) c.get_mut.follows.holds-at-none
     ∙ offers_unplaced c.args.changes.now (found (routed c.args.rows.now.entries) c.args.prefix) (row_lacking c.args.rows.now.entries c.args.prefix c.requires.rows.0 none) c.requires.routed s
 
 pub returns-in_default-clause-made : goal.returns-in_default-clause-made
@@ -40,9 +41,7 @@ there : (g : Over) (c : After-rows-2-1 g) → found (routed c.args.rows.now.entr
 there g c = row_there c.args.rows.now.entries c.args.prefix c.in-Some.record.now c.requires.rows.0 (had g c)
 
 put : (g : Over) (c : After-rows-2-1 g) → IsPut c.args.rows.now.entries (c.get_mut.follows.lender c.change.new.self).entries c.args.prefix (Some c.change.new.self)
-put g c =
-    let holds = c.get_mut.follows.holds c.change.new.self in
-    written c.args.rows.now.entries _ c.args.prefix c.in-Some.record.now c.change.new.self c.requires.rows.0 (had g c) holds.0 holds.4
+put g c = through_lent c.get_mut.result c.in-Some.record _ c.in-Some.is (c.get_mut.follows.holds c.change.new.self)
 
 pub returns-clause-rows : goal.returns-clause-rows
 returns-clause-rows g c =

@@ -1,6 +1,6 @@
 use Rattle.std.proofs.Common.{◌≡◌, slice_get}
 use Rattle.decision.specs.BookContents.{rows_of}
-use Rattle.rib_rows.specs.Picked.{picked}
+use Rattle.prefix_table.specs.Picked.{picked}
 use Rattle.rib_rows.specs.PrefixRows.{best_of, book_of}
 use Rattle.rib_rows.specs.Records.{PrefixRecord, routed}
 use Rattle.rib_rows.proofs.record_map.first_best.Given as goal

@@ -1,7 +1,7 @@
 use Rattle.std.proofs.Common.{◌≡◌}
 use Rattle.prefix_trie.specs.TrieWalks.{first_key}
 use Rattle.rib_in.specs.LatestRoutes.{routes_of}
-use Rattle.rib_rows.specs.Picked.{picked}
+use Rattle.prefix_table.specs.Picked.{picked}
 use Rattle.rib_rows.specs.PrefixRows.{adj_in_of, route_of}
 use Rattle.rib_rows.specs.Records.{PrefixRecord, routed}
 use Rattle.rib_rows.proofs.record_map.first_of_slot.Given as goal

@@ -1,19 +1,22 @@
-use Rattle.std.proofs.Common.{rules}
-use Rattle.rib_rows.proofs.Retained.{kept_each}
-use Rattle.rib_rows.proofs.SentWalks.{IsAsked, asked_held, asked_rows, asked_same}
+use Rattle.std.proofs.Common.{ap, ◌∙◌}
+use Rattle.prefix_trie.specs.TrieWalks.{first_key}
+use Rattle.rib_in.proofs.SlotWalks.{left-smaller}
+use Rattle.rib_rows.proofs.SentWalks.{above_last, asked, asked_none, walked, walks_more}
 use Rattle.rib_rows.proofs.sent_map.ask_in.Goals as goal
 
-pub returns-clause-rows : goal.returns-clause-rows
-returns-clause-rows g c =
-    asked_rows c.args.slot c.args.rows.now.entries c.retain.new.self.entries c.requires.rows c.retain.ensures.ordered
-    (kept_each (IsAsked c.args.slot) _ _ (λ k v b w f' t. (search rules, search rules)) c.args.rows.now.entries c.retain.new.self.entries c.requires.rows.0 c.retain.ensures.filtered)
+pub loop-prefix-smaller : goal.loop-prefix-smaller
+loop-prefix-smaller g c =
+    let first = c.in-Some.ensures.first ∙ ap first_key c.range_after.ensures in
+    left-smaller c.loop-prefix.after c.in-Some.prefix c.in-Some.ensures.address
+    (above_last (asked c.args.slot) (asked_none c.args.slot) c.loop-prefix.after _ _ c.loop-prefix.invariant c.in-Some.prefix first)
 
-pub returns-clause-routed : goal.returns-clause-routed
-returns-clause-routed g c =
-    asked_same c.args.slot c.args.rows.now.entries c.retain.new.self.entries c.requires.rows.0 c.retain.ensures.ordered
-    (kept_each (IsAsked c.args.slot) _ _ (λ k v b w f' t. (search rules, search rules)) c.args.rows.now.entries c.retain.new.self.entries c.requires.rows.0 c.retain.ensures.filtered)
+pub loop-prefix-preserved : goal.loop-prefix-preserved
+loop-prefix-preserved g c =
+    let first = c.in-Some.ensures.first ∙ ap first_key c.range_after.ensures in
+    let did = c.ask_at.ensures in
+    walks_more (asked c.args.slot) (asked_none c.args.slot) c.loop-prefix.after _ _ c.loop-prefix.invariant c.in-Some.prefix _ first
+    (record { rows = did.rows; others = did.others; same = did.routed; held = did.held })
 
 pub returns-clause-held : goal.returns-clause-held
 returns-clause-held g c =
-    asked_held c.args.slot c.args.rows.now.entries c.retain.new.self.entries
-    (kept_each (IsAsked c.args.slot) _ _ (λ k v b w f' t. (search rules, search rules)) c.args.rows.now.entries c.retain.new.self.entries c.requires.rows.0 c.retain.ensures.filtered)
+    walked (asked c.args.slot) (asked_none c.args.slot) c.loop-prefix.after _ _ c.loop-prefix.invariant (c.in_default.ensures.first ∙ ap first_key c.range_after.ensures)

@@ -1,7 +1,7 @@
 use Rattle.std.proofs.Common.{◌≡◌}
 use Rattle.prefix_trie.specs.TrieWalks.{first_key}
-use Rattle.rib_out.specs.Holdings.{held_by}
-use Rattle.rib_rows.specs.Picked.{picked}
+use Rattle.holdings.specs.Holdings.{held_by}
+use Rattle.prefix_table.specs.Picked.{picked}
 use Rattle.rib_rows.specs.Records.{PrefixRecord}
 use Rattle.rib_rows.proofs.sent_map.first_held.Given as goal
 

@@ -1,33 +1,61 @@
-use Rattle.std.proofs.Common.{◌≡◌, Some, rules, ap, subst, ◌∙◌}
-use Rattle.std.specs.BTreeMap.Entry.{entry_value, map_with_value}
-use Rattle.prefix_trie.specs.TrieMap.{found}
-use Rattle.rib_rows.proofs.RecordTables.{Based, IsPut, based, each_found, now_found, others_found, same_rows, sound_based, sound_put}
-use Rattle.rib_rows.specs.Records.{IsSound, held_of}
-use Rattle.rib_rows.proofs.sent_map.ready_in.Given.{Over}
+use Rattle.std.proofs.Common.{◌≡◌, Some, OnErr, OnOk, sym, ap, subst, ◌∙◌}
+use Rattle.std.specs.Option.{IfSome, option_copied_mut}
+use Rattle.prefix_table.specs.Tables.{IsPut}
+use Rattle.rib_rows.proofs.RecordTables.{each_found, now_found, others_found, same_rows, sound_kept, sound_put}
+use Rattle.rib_rows.proofs.SentSteps.{fresh_held, fresh_rows, fresh_sound, held_put, lent_found, lent_put}
+use Rattle.rib_rows.specs.Records.{IsPrepared, IsSound, row_of}
 use Rattle.rib_rows.proofs.sent_map.ready_in.Goals as goal
-use Rattle.rib_rows.proofs.sent_map.ready_in.Goals.{After-rows-in-Ok-1}
 
--- what stands there before the place is made
-begun : (g : Over) (c : After-rows-in-Ok-1 g) → Based (found c.args.rows.now.entries c.args.prefix) c.or_insert_with.result.now
-begun g c = subst (λ o. Based o c.or_insert_with.result.now) c.in-Ok.ensures.value (based (entry_value c.in-Ok.entry) _ c.or_insert_with.result.now c.or_insert_with.ensures.value (λ new. (search rules, search rules)))
+pub returns-in-Some-clause-rows : goal.returns-in-Some-clause-rows
+returns-in-Some-clause-rows g c =
+    let had = lent_found c.get_mut.result c.in-Some.record c.in-Some.is _ c.get_mut.ensures.value in
+    sound_put (lent_put c.get_mut.result c.in-Some.record c.in-Some.is _ (c.get_mut.follows.holds c.make_ready.new.self)) c.requires
+    (sound_kept c.in-Some.record.now c.make_ready.new.self (subst (λ o. IfSome o IsSound) had (each_found IsSound c.args.rows.now.entries c.requires.1 c.args.prefix)) c.make_ready.ensures.row)
 
-put : (g : Over) (c : After-rows-in-Ok-1 g) → IsPut c.args.rows.now.entries c.rows-in-Ok-1.given.0.entries c.args.prefix (Some c.make_ready.new.self)
-put g c =
-    let e = c.in-Ok.ensures in
-    let w = c.make_ready.new.self in
-    let same : c.rows-in-Ok-1.given.0 ≡ map_with_value c.in-Ok.entry w = search rules in
-    rw same (record { was_rising = c.requires.0; rising = e.update.2 w; puts = (e.update.0 w).0 })
+pub returns-in-Some-clause-others : goal.returns-in-Some-clause-others
+returns-in-Some-clause-others g c = others_found (lent_put c.get_mut.result c.in-Some.record c.in-Some.is _ (c.get_mut.follows.holds c.make_ready.new.self))
 
-pub returns-in-Ok-clause-rows : goal.returns-in-Ok-clause-rows
-returns-in-Ok-clause-rows g c =
-    sound_put (put g c) c.requires
-    (sound_based (found c.args.rows.now.entries c.args.prefix) c.make_ready.new.self (each_found IsSound c.args.rows.now.entries c.requires.1 c.args.prefix) (c.make_ready.ensures.row ∙ (begun g c).row))
+pub returns-in-Some-clause-routed : goal.returns-in-Some-clause-routed
+returns-in-Some-clause-routed g c =
+    let had = lent_found c.get_mut.result c.in-Some.record c.in-Some.is _ c.get_mut.ensures.value in
+    same_rows (lent_put c.get_mut.result c.in-Some.record c.in-Some.is _ (c.get_mut.follows.holds c.make_ready.new.self)) (c.make_ready.ensures.row ∙ ap row_of (sym had))
 
-pub returns-in-Ok-clause-others : goal.returns-in-Ok-clause-others
-returns-in-Ok-clause-others g c = others_found (put g c)
+pub returns-in-Some-clause-held : goal.returns-in-Some-clause-held
+returns-in-Some-clause-held g c =
+    held_put (λ s o. o) c.args.rows.now.entries _ c.args.prefix c.in-Some.record.now c.make_ready.new.self
+    (lent_put c.get_mut.result c.in-Some.record c.in-Some.is _ (c.get_mut.follows.holds c.make_ready.new.self))
+    (lent_found c.get_mut.result c.in-Some.record c.in-Some.is _ c.get_mut.ensures.value) c.make_ready.ensures.held
 
-pub returns-in-Ok-clause-routed : goal.returns-in-Ok-clause-routed
-returns-in-Ok-clause-routed g c = same_rows (put g c) (c.make_ready.ensures.row ∙ (begun g c).row)
+pub returns-in-Some-clause-ready : goal.returns-in-Some-clause-ready
+returns-in-Some-clause-ready g c =
+    subst (λ o. OnOk c.make_ready.result (IsPrepared c.args.sent.now o)) (sym (now_found (lent_put c.get_mut.result c.in-Some.record c.in-Some.is _ (c.get_mut.follows.holds c.make_ready.new.self)))) c.make_ready.ensures.ready
 
-pub returns-in-Ok-clause-held : goal.returns-in-Ok-clause-held
-returns-in-Ok-clause-held g c = λ s. ap (λ o. held_of o s) (now_found (put g c)) ∙ c.make_ready.ensures.held s ∙ (begun g c).held s
+pub returns-clause-rows : goal.returns-clause-rows
+returns-clause-rows g c =
+    let same = c.get_mut.follows.holds-at-none in
+    let r = c.make_ready-2.new.self in
+    fresh_sound c.insert.result c.args.rows.now.entries c.insert.new.self.entries c.args.prefix r
+    (record { row = c.make_ready-2.ensures.row ∙ c.new-record.ensures.row; sent = c.make_ready-2.ensures.any ∙ c.new-record.ensures.sent })
+    (sym c.get_mut.ensures.value ∙ ap option_copied_mut c.in_default.is)
+    (subst (λ es. OnOk c.insert.result (IsPut es c.insert.new.self.entries c.args.prefix (Some r))) same c.insert.ensures.put)
+    (subst (λ es. OnErr c.insert.result (c.insert.new.self.entries ≡ es)) same c.insert.ensures.err) c.requires
+
+pub returns-clause-routed : goal.returns-clause-routed
+returns-clause-routed g c =
+    let same = c.get_mut.follows.holds-at-none in
+    let r = c.make_ready-2.new.self in
+    fresh_rows c.insert.result c.args.rows.now.entries c.insert.new.self.entries c.args.prefix r
+    (record { row = c.make_ready-2.ensures.row ∙ c.new-record.ensures.row; sent = c.make_ready-2.ensures.any ∙ c.new-record.ensures.sent })
+    (sym c.get_mut.ensures.value ∙ ap option_copied_mut c.in_default.is)
+    (subst (λ es. OnOk c.insert.result (IsPut es c.insert.new.self.entries c.args.prefix (Some r))) same c.insert.ensures.put)
+    (subst (λ es. OnErr c.insert.result (c.insert.new.self.entries ≡ es)) same c.insert.ensures.err)
+
+pub returns-clause-held : goal.returns-clause-held
+returns-clause-held g c =
+    let same = c.get_mut.follows.holds-at-none in
+    let r = c.make_ready-2.new.self in
+    fresh_held c.insert.result c.args.rows.now.entries c.insert.new.self.entries c.args.prefix r
+    (record { row = c.make_ready-2.ensures.row ∙ c.new-record.ensures.row; sent = c.make_ready-2.ensures.any ∙ c.new-record.ensures.sent })
+    (sym c.get_mut.ensures.value ∙ ap option_copied_mut c.in_default.is)
+    (subst (λ es. OnOk c.insert.result (IsPut es c.insert.new.self.entries c.args.prefix (Some r))) same c.insert.ensures.put)
+    (subst (λ es. OnErr c.insert.result (c.insert.new.self.entries ≡ es)) same c.insert.ensures.err)

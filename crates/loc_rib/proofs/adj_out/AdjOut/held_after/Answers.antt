@@ -3,8 +3,8 @@ use Rattle.prefix_trie.specs.TrieMap.{IsRising}
 use Rattle.prefix_trie.specs.TrieWalks.{all_after}
 use Rattle.rib_in.proofs.Behind.{rising_after}
 use Rattle.rib_out.specs.Held.{HeldRoute, octets_of}
-use Rattle.rib_out.specs.Holdings.{octets_by}
-use Rattle.rib_rows.specs.Picked.{picked}
+use Rattle.holdings.specs.Holdings.{octets_by}
+use Rattle.prefix_table.specs.Picked.{picked}
 use Rattle.loc_rib.proofs.RowFinds.{mapped_after}
 use Rattle.loc_rib.proofs.SentTables.{octets_read, octets_rising}
 use Rattle.loc_rib.specs.SentTables.{sent_to}

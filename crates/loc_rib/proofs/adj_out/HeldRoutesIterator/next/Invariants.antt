@@ -1,6 +1,6 @@
 use Rattle.std.proofs.Common.{◌≡◌, ◌<◌, length}
-use Rattle.rib_out.specs.Holdings.{octets_by}
-use Rattle.rib_rows.specs.Picked.{picked}
+use Rattle.holdings.specs.Holdings.{octets_by}
+use Rattle.prefix_table.specs.Picked.{picked}
 use Rattle.loc_rib.proofs.adj_out.HeldRoutesIterator.next.Given as goal
 
 abbrev pub invariant-loop-prefix : goal.invariant-loop-prefix

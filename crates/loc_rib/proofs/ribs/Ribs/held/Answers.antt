@@ -1,7 +1,7 @@
 use Rattle.std.proofs.Common.{◌≡◌, None, Some, option_map, ap, sym, ◌∙◌}
 use Rattle.std.specs.Option.{option_copied}
 use Rattle.prefix_trie.specs.TrieMap.{found}
-use Rattle.rib_out.specs.Holdings.{octets_by}
+use Rattle.holdings.specs.Holdings.{octets_by}
 use Rattle.rib_out.specs.Slots.{has_slot}
 use Rattle.rib_rows.specs.Records.{held_of}
 use Rattle.loc_rib.proofs.SentTables.{sent_found}

@@ -7,12 +7,12 @@ use Rattle.loc_rib.specs.SentTables.{sent_to}
 use Rattle.loc_rib.proofs.ribs.Ribs.new.Goals as goal
 
 pub invariant_of-result : goal.invariant_of-result
-invariant_of-result g c = none_kept c.new-rows.result.entries c.new-rows.ensures.empty c.new-2.result.holders c.new-2.result.askers c.new-2.result.all_asked
+invariant_of-result g c = none_kept c.in_ok-rows.rows.entries c.in_ok-rows.ensures c.new-3.result.holders c.new-3.result.askers c.new-3.result.all_asked
 
 pub returns : goal.returns
 returns g c =
-    let sent = sent_of c.new-rows.result.entries in
-    let view : RecordTable → RibTables = λ es. record { adj_in = adj_in_of (routed es); book = book_of (routed es); chosen = c.new.result.count; sent = sent } in (
-      ap view c.new-rows.ensures.empty ∙ ap (λ n. record started { chosen = n; sent = sent }) c.new.ensures,
-      λ s. ap (λ es. sent_to (sent_of es) s) c.new-rows.ensures.empty ∙ none_sent s,
+    let sent = sent_of c.in_ok-rows.rows.entries in
+    let view : RecordTable → RibTables = λ es. record { adj_in = adj_in_of (routed es); book = book_of (routed es); chosen = c.new-2.result.count; sent = sent } in (
+      ap view c.in_ok-rows.ensures ∙ ap (λ n. record started { chosen = n; sent = sent }) c.new-2.ensures,
+      λ s. ap (λ es. sent_to (sent_of es) s) c.in_ok-rows.ensures ∙ none_sent s,
     )

@@ -1,0 +1,2 @@
+pub mod FewHoldings
+pub mod HoldingLists

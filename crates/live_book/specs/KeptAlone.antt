@@ -1,0 +1,16 @@
+-- What a book keeps of a prefix, where a place may stand in the book itself.
+use Rattle.std.specs.Prelude.{ℕ, Option, Some, None, [], ◌∷◌}
+use Rattle.decision.specs.BookContents.{Kept}
+use Rattle.decision.specs.declared.candidate.Candidate.{Candidate}
+use Rattle.live_book.specs.declared.live.Places.{Places}
+use Rattle.live_book.specs.declared.live.Places.TheVariants.{Nobody, Vacant, Alone, Many}
+
+-- one slot has a place, and its candidate is the best one
+abbrev pub one_place : ℕ → Option Candidate → Kept
+one_place slot candidate = record { places = (slot, candidate) ∷ []; best = candidate }
+
+abbrev pub kept_in : {A : Type 0} → Places A → Kept
+kept_in Nobody = record { places = []; best = None }
+kept_in (Vacant slot) = one_place slot None
+kept_in (Alone c) = one_place c.slot (Some c)
+kept_in (Many many) = many

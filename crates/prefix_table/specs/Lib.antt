@@ -1,0 +1,5 @@
+pub mod Lending
+pub mod Picked
+pub mod Placed
+pub mod RecentPlaces
+pub mod Tables

@@ -1,0 +1,9 @@
+use Rattle.rib_in.proofs.SlotWalks.{left_above}
+use Rattle.rib_rows.proofs.SentWalks.{Walks, cleared}
+use Rattle.rib_rows.proofs.sent_map.clear_in.Given as goal
+
+abbrev pub invariant-loop-prefix : goal.invariant-loop-prefix
+invariant-loop-prefix g l = Walks (cleared l.fn.slot) l.after l.fn.rows.entries l.rows.entries
+
+abbrev pub decreases-loop-prefix : goal.decreases-loop-prefix
+decreases-loop-prefix g l = left_above l.after
