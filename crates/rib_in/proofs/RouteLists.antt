@@ -1,5 +1,5 @@
 -- What holds of the routes to one prefix when one is put in, replaced or taken out.
-use Rattle.std.proofs.Common.{◌≡◌, ℕ, ◌<◌, ◌==◌, Bool, true, false, not, cond, [], ◌∷◌, Option, Some, None, IsSome, Box, length, refl, sym, ap, subst, ◌∙◌, arith}
+use Rattle.std.proofs.Common.{◌≡◌, ℕ, ◌<◌, ◌==◌, Bool, true, false, not, cond, [], ◌∷◌, Option, Some, None, IsSome, Box, length, suc, refl, sym, ap, subst, ◌∙◌, arith}
 use Rattle.std.proofs.lemmas.Bool.{eqb-true}
 use Rattle.std.proofs.lemmas.Bool.Decides.{nat_tests}
 use Rattle.std.proofs.lemmas.Cmp.{eq_by_cmp_equiv, nat_cmp_total}
@@ -18,7 +18,6 @@ use Rattle.rib_in.specs.PrefixRoutes.{AreRoutes, HasRisingSlots, IsAnnounced, hi
 use Rattle.bgp_attr.proofs.EntryLists.{equal_from, lookup-insert_entry, some-insert_entry, sorted-insert_entry}
 use Rattle.rib_in.proofs.Ordered.{sorted-others}
 
--- the first slot, if there is one
 abbrev pub first_slot : RouteList → ℕ
 first_slot [] = 0
 first_slot (e ∷ es) = e.0
@@ -28,6 +27,9 @@ here s = grind (arith, nat_tests)
 
 pub not_at : (s t : ℕ) → (s ≡ t → ⊥) → is_at (nat_cmp t) s ≡ false
 not_at s t h = grind (arith, nat_tests)
+
+is_slot : (s t : ℕ) → is_at (nat_cmp t) s ≡ true → s ≡ t
+is_slot s t h = grind (arith, nat_tests)
 
 abbrev Above : ℕ → RouteList → Type 0
 Above s es = AllByRecursion (λ t. nat_cmp s t ≡ Less) (keys_of es)
@@ -69,6 +71,14 @@ only_first s t a None false h e same = absurd cc
 only_first s t a (Some b) true h e same = absurd cc
 only_first s t a (Some b) false h e same =
     subst (λ n. false ≡ is_only n ((s, a) ∷ b.value)) e (sym (ap (λ l. length l == 0) (without_first s a b.value h.rising) ∙ some_length (length b.value) h.any))
+
+-- no slot is the only one where there are others behind the first
+alone_so : {A : Type 0} (s t : ℕ) (a : PathAttributes) (b : Box RouteList A) (at : Bool) → AreRoutes s a (Some b) → is_at (nat_cmp t) s ≡ at → false ≡ is_only t ((s, a) ∷ b.value)
+alone_so s t a b true h is = only_first s t a (Some b) false h (is_slot s t is) refl
+alone_so s t a b false h is = rw is (sym (some_length (suc (length (others_of t b.value))) (omega arith)))
+
+pub not_alone : {A : Type 0} (s t : ℕ) (a : PathAttributes) (b : Box RouteList A) → AreRoutes s a (Some b) → false ≡ is_only t ((s, a) ∷ b.value)
+not_alone s t a b h = alone_so s t a b (is_at (nat_cmp t) s) h refl
 
 pub next_only : {A : Type 0} (s t : ℕ) (a : PathAttributes) (b : Box RouteList A) (r : Bool) → AreRoutes s a (Some b) → r ≡ is_only t b.value → r ≡ is_next_only t ((s, a) ∷ b.value)
 next_only s t a b r h is = rw (some_length (length b.value) h.any) is

@@ -1,3 +1,4 @@
+pub mod Chains
 pub mod LatestRoutes
 pub mod PrefixRoutes
 pub mod RoutesFall

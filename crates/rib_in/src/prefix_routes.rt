@@ -4,7 +4,8 @@ ghost use Rattle.std.specs.Option.{option_copied, option_map, is_some};
 ghost use Rattle.std.specs.Map.{set_value};
 ghost use Rattle.std.specs.BTreeMap.{is_at};
 ghost use Rattle.std.specs.Ordering.{nat_cmp};
-ghost use Rattle.rib_in.specs.LatestRoutes.{route_in};
+ghost use Rattle.bgp_attr.specs.PathAttributes.{PathAttributes};
+ghost use Rattle.rib_in.specs.LatestRoutes.{RouteList, route_in};
 ghost use Rattle.rib_in.specs.PrefixRoutes.{IsLeft, is_next_only, is_only, with_first};
 
 use bgp_attr::Attrs;
@@ -15,13 +16,20 @@ use std::mem;
 use std::rc::Rc;
 
 /// The routes to one prefix, in rising order of slot: at least one.
+#[cycle(routes)]
 #[derive(Drop)]
 pub struct PrefixRoutes<A: Allocator = Global> {
-    slot: u8,
     // Shared with the other routes of the UPDATE.
     attrs: Rc<Attrs<A>, A>,
-    // Those of higher slots.
-    higher: Option<Box<PrefixRoutes<A>, A>>,
+    chain: Chain<A>,
+}
+
+// The slot of a route, and the routes of higher slots. In one value both take 16 octets, apart they would take 24.
+#[cycle(routes)]
+#[derive(Drop)]
+enum Chain<A: Allocator> {
+    Last(u8),
+    Before(u8, Box<PrefixRoutes<A>, A>),
 }
 
 impl<A: Allocator> Model for PrefixRoutes<A> {
@@ -31,10 +39,11 @@ impl<A: Allocator> Model for PrefixRoutes<A> {
     ghost Value = { RouteList };
 
     ghost use Rattle.rib_in.specs.PrefixRoutes.{AreRoutes, higher_of};
+    ghost use Rattle.rib_in.specs.Chains.{behind, slot_of};
 
-    ghost view = { λ r. (r.slot, r.attrs.value) ∷ higher_of r.higher };
+    ghost view = { λ r. (slot_of r.chain, r.attrs.value) ∷ higher_of (behind r.chain) };
 
-    ghost invariant = { λ r. AreRoutes r.slot r.attrs.value r.higher };
+    ghost invariant = { λ r. AreRoutes (slot_of r.chain) r.attrs.value (behind r.chain) };
 
     ghost size = { length };
 
@@ -49,9 +58,8 @@ impl<A: Allocator> PrefixRoutes<A> {
         ensures { result ≡ (slot, attrs.value) ∷ [] }
     {
         PrefixRoutes {
-            slot,
             attrs,
-            higher: None,
+            chain: Chain::Last(slot),
         }
     }
 
@@ -69,12 +77,12 @@ impl<A: Allocator> PrefixRoutes<A> {
     pub fn get(&self, slot: u8) -> Option<&Rc<Attrs<A>, A>>
         ensures { option_map (λ attrs. attrs.value) (option_copied result) ≡ route_in self.now slot }
     {
-        if self.slot == slot {
+        if self.slot() == slot {
             return Some(&self.attrs);
         }
-        match &self.higher {
-            Some(higher) => higher.get(slot),
-            None => None,
+        match &self.chain {
+            Chain::Before(_, higher) => higher.get(slot),
+            Chain::Last(_) => None,
         }
     }
 
@@ -82,7 +90,10 @@ impl<A: Allocator> PrefixRoutes<A> {
     pub fn is_only(&self, slot: u8) -> bool
         ensures { result ≡ is_only slot self.now }
     {
-        self.slot == slot && self.higher.is_none()
+        match &self.chain {
+            Chain::Last(own) => *own == slot,
+            Chain::Before(_, _) => false,
+        }
     }
 
     /// Replaces the slot's route. Where it has none the attributes come back.
@@ -92,11 +103,11 @@ impl<A: Allocator> PrefixRoutes<A> {
         ensures back { IfErr result (λ back. back.value ≡ attrs.value) }
         ensures there { is_ok result ≡ is_some (route_in self.old slot) }
     {
-        if self.slot == slot {
+        if self.slot() == slot {
             self.attrs = attrs;
             return Ok(());
         }
-        let Some(higher) = &mut self.higher else {
+        let Chain::Before(_, higher) = &mut self.chain else {
             return Err(attrs);
         };
         higher.replace(slot, attrs)
@@ -106,20 +117,21 @@ impl<A: Allocator> PrefixRoutes<A> {
     pub fn put(&mut self, mut route: Box<PrefixRoutes<A>, A>)
         ensures { self.new ≡ with_first self.old route.value }
     {
-        match route.slot.cmp(&self.slot) {
+        let (slot, own) = (route.slot(), self.slot());
+        match slot.cmp(&own) {
             Ordering::Less => {
                 mem::swap(self, &mut *route);
-                self.higher = Some(route);
+                self.chain = Chain::Before(slot, route);
             }
             Ordering::Equal => {
                 let PrefixRoutes { attrs, .. } = Box::into_inner(route);
                 self.attrs = attrs;
             }
-            Ordering::Greater => match &mut self.higher {
-                Some(higher) => higher.put(route),
-                None => {
-                    route.higher = None;
-                    self.higher = Some(route);
+            Ordering::Greater => match &mut self.chain {
+                Chain::Before(_, higher) => higher.put(route),
+                Chain::Last(_) => {
+                    route.chain = Chain::Last(slot);
+                    self.chain = Chain::Before(own, route);
                 }
             },
         }
@@ -130,18 +142,18 @@ impl<A: Allocator> PrefixRoutes<A> {
         ensures left { IsLeft slot self.old self.new }
         ensures only { is_only slot self.old ≡ true → self.new ≡ self.old }
     {
-        if self.slot == slot {
-            let Some(higher) = self.higher.take() else {
+        if self.slot() == slot {
+            let Chain::Before(_, higher) = mem::replace(&mut self.chain, Chain::Last(slot)) else {
                 return;
             };
             *self = Box::into_inner(higher);
             return;
         }
         if self.is_next_only(slot) {
-            self.higher = None;
+            self.chain = Chain::Last(self.slot());
             return;
         }
-        let Some(higher) = &mut self.higher else {
+        let Chain::Before(_, higher) = &mut self.chain else {
             return;
         };
         higher.withdraw(slot);
@@ -151,9 +163,19 @@ impl<A: Allocator> PrefixRoutes<A> {
     fn is_next_only(&self, slot: u8) -> bool
         ensures { result ≡ is_next_only slot self.now }
     {
-        match &self.higher {
-            Some(higher) => higher.is_only(slot),
-            None => false,
+        match &self.chain {
+            Chain::Before(_, higher) => higher.is_only(slot),
+            Chain::Last(_) => false,
+        }
+    }
+
+    // The lowest slot that has a route.
+    fn slot(&self) -> u8
+        ensures { (attrs : PathAttributes) × (more : RouteList) × (self.now ≡ (result, attrs) ∷ more) }
+    {
+        match &self.chain {
+            Chain::Last(slot) => *slot,
+            Chain::Before(slot, _) => *slot,
         }
     }
 }

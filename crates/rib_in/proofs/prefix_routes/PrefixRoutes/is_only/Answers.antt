@@ -1,6 +1,7 @@
-use Rattle.rib_in.proofs.RouteLists.{only_first}
+use Rattle.rib_in.proofs.RouteLists.{not_alone}
 use Rattle.rib_in.proofs.prefix_routes.PrefixRoutes.is_only.Goals as goal
 
-pub returns-then-self-slot : goal.returns-then-self-slot
-returns-then-self-slot g c =
-    rw (← c.self.view_is) (only_first c.self.inside.slot c.args.slot c.self.inside.attrs.value c.self.inside.higher c.is_none.result c.self.invariant c.if-self-slot.true c.is_none.ensures)
+pub returns-in-Before : goal.returns-in-Before
+returns-in-Before g c =
+    let before = rw c.in-Before.is at c.self.invariant in
+    rw (← c.self.view_is, c.in-Before.is) (not_alone c.in-Before.field-0 c.args.slot c.self.inside.attrs.value c.in-Before.field-1 before)
