@@ -1,11 +1,10 @@
 -- What is read of each entry of a rising table.
 use Rattle.std.proofs.Common.{◌≡◌, ◌++◌, Bool, true, false, cond, not, ◌&&◌, List, [], ◌∷◌, All, Option, None, Some, IfSome, IsSome, filter, map, option_map, option_and_then, refl, sym, ap, ◌∙◌, subst}
 use Rattle.std.proofs.lemmas.List.Elements.{filter_agree, All-cons, All-head, All-nil, All-tail, filter_map-append}
-use Rattle.std.specs.BTreeMap.{is_at}
 use Rattle.std.specs.BTreeMap.Range.{entries_between, range_contains}
 use Rattle.std.specs.List.{AllByRecursion, cons_option}
 use Rattle.std.specs.List.Sorted.{IsStrictlySortedBy}
-use Rattle.std.specs.Map.{keys_of, remove_entry, set_value, values_of}
+use Rattle.std.specs.Map.{keys_of, values_of}
 use Rattle.std.specs.Ordering.{is_eq, is_lt, ordering_reverse}
 use Rattle.std.specs.declared.cmp.Ordering.{Ordering}
 use Rattle.std.specs.declared.cmp.Ordering.TheVariants.{Less, Equal, Greater}
@@ -72,61 +71,6 @@ module _ {X : Type 0} where
       let more : es ≡ fs = same_found es fs rising.1 also.1
       (λ p. tail_case e f es fs p (is_eq (prefix_cmp p e.0)) refl one rising.0 also.0 (same p ∙ ap (λ k. cond (is_eq (prefix_cmp p k)) (Some f.1) (found fs p)) (sym one))) in
       λ i. (one i, value i) ∷ more i
-
--- ---- what is found behind a change of one entry
-
-turn_case : (p q : Prefix) (b c : Bool) → is_eq (prefix_cmp p q) ≡ b → is_eq (prefix_cmp q p) ≡ c → b ≡ c
-turn_case p q true true is back = refl
-turn_case p q true false is back = sym (is_at-refl q) ∙ ap (λ k. is_eq (prefix_cmp q k)) (sym (one_prefix p q is)) ∙ back
-turn_case p q false true is back = sym is ∙ ap (λ k. is_eq (prefix_cmp p k)) (one_prefix q p back) ∙ is_at-refl p
-turn_case p q false false is back = refl
-
-pub turned : (p q : Prefix) → is_eq (prefix_cmp p q) ≡ is_eq (prefix_cmp q p)
-turned p q = turn_case p q (is_eq (prefix_cmp p q)) (is_eq (prefix_cmp q p)) refl refl
-
-module _ {X : Type 0} where
-  removed_case : (p q : Prefix) (e : Prefix × X) (es : List (Prefix × X)) (a b : Bool) → is_eq (prefix_cmp p e.0) ≡ a → is_eq (prefix_cmp p q) ≡ b → AreBehind e.0 es
-      → found (remove_entry (is_at (prefix_cmp p)) es) q ≡ cond b None (found es q)
-      → found (cond a es (e ∷ remove_entry (is_at (prefix_cmp p)) es)) q ≡ cond b None (found (e ∷ es) q)
-  removed_case p q e es true true at is behind more =
-      let own : q ≡ e.0 = sym (one_prefix p q is) ∙ one_prefix p e.0 at in
-      ap (found es) own ∙ none_behind e.0 es behind
-  removed_case p q e es true false at is behind more =
-      let other : is_eq (prefix_cmp q e.0) ≡ false = ap (λ k. is_eq (prefix_cmp q k)) (sym (one_prefix p e.0 at)) ∙ turned q p ∙ is in
-      sym (ap (λ b. cond b (Some e.1) (found es q)) other)
-  removed_case p q e es false true at is behind more =
-      let other : is_eq (prefix_cmp q e.0) ≡ false = ap (λ k. is_eq (prefix_cmp k e.0)) (sym (one_prefix p q is)) ∙ at in
-      ap (λ b. cond b (Some e.1) (found (remove_entry (is_at (prefix_cmp p)) es) q)) other ∙ more
-  removed_case p q e es false false at is behind more = ap (cond (is_eq (prefix_cmp q e.0)) (Some e.1)) more
-
-  -- behind a removal, the prefix has no value, and each other what it had
-  pub found_removed : (es : List (Prefix × X)) → IsRising es → (p q : Prefix) → found (remove_entry (is_at (prefix_cmp p)) es) q ≡ cond (is_eq (prefix_cmp p q)) None (found es q)
-  unfolding IsStrictlySortedBy
-  found_removed [] rising p q = none_either (is_eq (prefix_cmp p q))
-    where
-      none_either : (b : Bool) → (let none : Option X = None in none) ≡ cond b None None
-      none_either true = refl
-      none_either false = refl
-  found_removed (e ∷ es) rising p q = removed_case p q e es (is_eq (prefix_cmp p e.0)) (is_eq (prefix_cmp p q)) refl refl rising.0 (found_removed es rising.1 p q)
-
-  set_case : (p q : Prefix) (w : X) (e : Prefix × X) (es : List (Prefix × X)) (a b : Bool) → is_eq (prefix_cmp p e.0) ≡ a → is_eq (prefix_cmp p q) ≡ b → IsSome (cond a (Some e.1) (found es p))
-      → (IsSome (found es p) → found (set_value (is_at (prefix_cmp p)) es w) q ≡ cond b (Some w) (found es q))
-      → found (cond a ((e.0, w) ∷ es) (e ∷ set_value (is_at (prefix_cmp p)) es w)) q ≡ cond b (Some w) (found (e ∷ es) q)
-  set_case p q w e es true true at is there more =
-      let own : is_eq (prefix_cmp q e.0) ≡ true = ap (λ k. is_eq (prefix_cmp k e.0)) (sym (one_prefix p q is)) ∙ at in
-      ap (λ b. cond b (Some w) (found es q)) own
-  set_case p q w e es true false at is there more =
-      let other : is_eq (prefix_cmp q e.0) ≡ false = ap (λ k. is_eq (prefix_cmp q k)) (sym (one_prefix p e.0 at)) ∙ turned q p ∙ is in
-      ap (λ b. cond b (Some w) (found es q)) other ∙ sym (ap (λ b. cond b (Some e.1) (found es q)) other)
-  set_case p q w e es false true at is there more =
-      let other : is_eq (prefix_cmp q e.0) ≡ false = ap (λ k. is_eq (prefix_cmp k e.0)) (sym (one_prefix p q is)) ∙ at in
-      ap (λ b. cond b (Some e.1) (found (set_value (is_at (prefix_cmp p)) es w) q)) other ∙ more there
-  set_case p q w e es false false at is there more = ap (cond (is_eq (prefix_cmp q e.0)) (Some e.1)) (more there)
-
-  -- behind a write to what is there, the prefix has the value, and each other what it had
-  pub found_set : (es : List (Prefix × X)) (p q : Prefix) (w : X) → IsSome (found es p) → found (set_value (is_at (prefix_cmp p)) es w) q ≡ cond (is_eq (prefix_cmp p q)) (Some w) (found es q)
-  found_set [] p q w there = absurd (cc)
-  found_set (e ∷ es) p q w there = set_case p q w e es (is_eq (prefix_cmp p e.0)) (is_eq (prefix_cmp p q)) refl refl there (found_set es p q w)
 
 -- ---- what is read of each entry
 

@@ -1,5 +1,5 @@
 -- Which places are remembered.
-use Rattle.std.specs.Prelude.{◌≡◌, ◌⊎◌, ℕ, ◌+◌, ◌*◌, ◌^◌, ◌/◌, ◌%◌, Option, None, Some, if◌then◌else◌, slice_index_or}
+use Rattle.std.specs.Prelude.{◌≡◌, ◌≢◌, ℕ, ◌+◌, ◌*◌, ◌^◌, ◌/◌, ◌%◌, Option, None, Some, if◌then◌else◌, slice_index_or}
 use Rattle.std.specs.Ordering.{is_eq}
 use Rattle.net_prefix.specs.PrefixOrder.{prefix_cmp}
 use Rattle.net_prefix.specs.declared.prefix.Prefix.{Prefix}
@@ -10,6 +10,10 @@ use Rattle.prefix_table.specs.declared.recent.RecentPlaces.{RecentPlaces}
 unfoldable pub spot_of : Prefix → ℕ
 spot_of p = ((p.bits + p.len) % 2 ^ 32 * 2654435761 % 2 ^ 32) / 2 ^ 22 % 1024
 
+-- what a spot remembers
+abbrev pub spot_at : RecentPlaces → ℕ → Option RecentPlace
+spot_at recent k = slice_index_or recent.spots k None
+
 -- the place that a spot remembers of a prefix
 abbrev pub place_there : Option RecentPlace → Prefix → Option ℕ
 place_there None q = None
@@ -17,13 +21,9 @@ place_there (Some recent) q = if is_eq (prefix_cmp recent.prefix q) then Some re
 
 -- the place that is remembered of a prefix
 abbrev pub remembered : RecentPlaces → Prefix → Option ℕ
-remembered recent q = place_there (slice_index_or recent.spots (spot_of q) None) q
+remembered recent q = place_there (spot_at recent (spot_of q)) q
 
--- what is remembered was remembered before, or is the prefix's place
-abbrev pub Keeps : RecentPlaces → RecentPlaces → Prefix → ℕ → Type 0
-Keeps old new prefix place = (q : Prefix) (n : ℕ) → remembered new q ≡ Some n → ((q ≡ prefix) × (n ≡ place)) ⊎ (remembered old q ≡ Some n)
-
--- the prefix is forgotten, and what is remembered was remembered before
-pub record Forgets (old new : RecentPlaces) (prefix : Prefix) : Type 0 where
-  pub forgotten : remembered new prefix ≡ None
-  pub rest : (q : Prefix) (n : ℕ) → remembered new q ≡ Some n → remembered old q ≡ Some n
+-- the spot of a prefix remembers this from now on, or nothing, and each other spot what it did
+pub record IsSpotSet (old new : RecentPlaces) (prefix : Prefix) (now : Option RecentPlace) : Type 0 where
+  pub own : spot_at new (spot_of prefix) ≡ now
+  pub others : (k : ℕ) → k ≢ spot_of prefix → spot_at new k ≡ spot_at old k

@@ -10,7 +10,7 @@
 //! forgotten. `Range` walks along the tree, and reads the value of each place.
 //!
 //! The invariant: each place in the tree has a value, no two prefixes have one place, each value is that of some prefix,
-//! and each prefix that is remembered has in the tree just the place that is remembered.
+//! and each spot of the list is empty, or has a prefix whose spot it is, with just the place that it has in the tree.
 //!
 //! Why so: values may be large. Apart from the tree they leave its nodes small, and keep their places when others come
 //! and go. A caller looks a prefix up several times in a row, and each time but the first costs next to nothing.

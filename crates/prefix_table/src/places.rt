@@ -1,8 +1,9 @@
 //! The places of values by prefix.
-ghost use Rattle.std.specs.Prelude.{◌≡◌, [], None, Some, OnErr, OnOk, if◌then◌else◌};
+ghost use Rattle.std.specs.Prelude.{◌≡◌, [], None, Some, IfSome, OnErr, OnOk, if◌then◌else◌};
 ghost use Rattle.std.specs.Ordering.{is_eq};
 ghost use Rattle.net_prefix.specs.PrefixOrder.{prefix_cmp};
 ghost use Rattle.net_prefix.specs.declared.prefix.Prefix.{Prefix as ThePrefix};
+ghost use Rattle.prefix_table.specs.RecentPlaces.{remembered};
 ghost use Rattle.prefix_trie.specs.TrieMap.{IsRising, found};
 ghost use Rattle.prefix_trie.specs.TrieWalks.{all_after};
 
@@ -21,14 +22,11 @@ pub(crate) struct Places<A: Allocator> {
 }
 
 impl<A: Allocator> Model for Places<A> {
-    ghost use Rattle.std.specs.Prelude.{List, ℕ};
-    ghost use Rattle.net_prefix.specs.declared.prefix.Prefix.{Prefix};
+    ghost use Rattle.prefix_table.specs.Placed.{AreRemembered, PlacesState};
 
-    ghost Value = { List (Prefix × ℕ) };
+    ghost Value = { PlacesState };
 
-    ghost use Rattle.prefix_table.specs.Placed.{AreRemembered};
-
-    ghost view = { λ p. p.tree.entries };
+    ghost view = { λ p. record { entries = p.tree.entries; recent = p.recent } };
 
     ghost invariant = { λ p. AreRemembered p.tree.entries p.recent };
 }
@@ -36,7 +34,7 @@ impl<A: Allocator> Model for Places<A> {
 impl<A: Allocator + Clone> Places<A> {
     /// No prefix has a place.
     pub(crate) fn new(alloc: A) -> Self
-        ensures { result ≡ [] }
+        ensures { result.entries ≡ [] }
     {
         Places {
             tree: BTreeMap::new(alloc),
@@ -46,7 +44,7 @@ impl<A: Allocator + Clone> Places<A> {
 
     /// The place of the prefix.
     pub(crate) fn find(&self, prefix: Prefix) -> Option<usize>
-        ensures { result ≡ found self.now prefix }
+        ensures { result ≡ found self.now.entries prefix }
     {
         match self.recent.find(prefix) {
             Some(place) => Some(place),
@@ -56,8 +54,9 @@ impl<A: Allocator + Clone> Places<A> {
 
     /// The place of the prefix, which is remembered.
     pub(crate) fn find_here(&mut self, prefix: Prefix) -> Option<usize>
-        ensures place { result ≡ found self.old prefix }
-        ensures same { self.new ≡ self.old }
+        ensures place { result ≡ found self.old.entries prefix }
+        ensures same { self.new.entries ≡ self.old.entries }
+        ensures kept { IfSome result (λ place. remembered self.new.recent prefix ≡ Some place) }
     {
         if let Some(place) = self.recent.find(prefix) {
             return Some(place);
@@ -69,8 +68,9 @@ impl<A: Allocator + Clone> Places<A> {
 
     /// The prefix has this place from now on.
     pub(crate) fn insert(&mut self, prefix: Prefix, place: usize) -> Result<(), AllocError>
-        ensures rising { OnOk result (IsRising self.new) }
-        ensures puts { OnOk result ((q : ThePrefix) → found self.new q ≡ (if is_eq (prefix_cmp prefix q) then Some place else found self.old q)) }
+        ensures rising { OnOk result (IsRising self.new.entries) }
+        ensures puts { OnOk result ((q : ThePrefix) → found self.new.entries q ≡ (if is_eq (prefix_cmp prefix q) then Some place else found self.old.entries q)) }
+        ensures kept { OnOk result (remembered self.new.recent prefix ≡ Some place) }
         ensures err { OnErr result (self.new ≡ self.old) }
     {
         match self.tree.insert(prefix, place) {
@@ -85,9 +85,10 @@ impl<A: Allocator + Clone> Places<A> {
 
     /// The prefix has no place any more. Answers the one that it had.
     pub(crate) fn remove(&mut self, prefix: Prefix) -> Option<usize>
-        ensures place { result ≡ found self.old prefix }
-        ensures rising { IsRising self.new }
-        ensures puts { (q : ThePrefix) → found self.new q ≡ (if is_eq (prefix_cmp prefix q) then None else found self.old q) }
+        ensures place { result ≡ found self.old.entries prefix }
+        ensures rising { IsRising self.new.entries }
+        ensures puts { (q : ThePrefix) → found self.new.entries q ≡ (if is_eq (prefix_cmp prefix q) then None else found self.old.entries q) }
+        ensures forgotten { remembered self.new.recent prefix ≡ None }
     {
         self.recent.forget(prefix);
         self.tree.remove(&prefix)
@@ -95,7 +96,7 @@ impl<A: Allocator + Clone> Places<A> {
 
     /// The places of the prefixes above the given one, or of all.
     pub(crate) fn after(&self, after: Option<Prefix>) -> btree_map::Range<'_, Prefix, usize>
-        ensures { result ≡ all_after after self.now }
+        ensures { result ≡ all_after after self.now.entries }
     {
         match after {
             Some(prefix) => self.tree.range((Bound::Excluded(prefix), Bound::Unbounded)),

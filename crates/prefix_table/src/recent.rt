@@ -1,7 +1,6 @@
 //! The places of the prefixes that were looked up lately.
 ghost use Rattle.std.specs.Prelude.{◌≡◌, ◌<◌, ℕ, None, Some};
-ghost use Rattle.net_prefix.specs.declared.prefix.Prefix.{Prefix as ThePrefix};
-ghost use Rattle.prefix_table.specs.RecentPlaces.{Forgets, Keeps, remembered, spot_of};
+ghost use Rattle.prefix_table.specs.RecentPlaces.{IsSpotSet, remembered, spot_at, spot_of};
 
 use net_prefix::Prefix;
 
@@ -24,7 +23,7 @@ pub(crate) struct RecentPlaces {
 impl RecentPlaces {
     /// No prefix is remembered.
     pub(crate) fn new() -> Self
-        ensures { (q : ThePrefix) → remembered result q ≡ None }
+        ensures { (k : ℕ) → spot_at result k ≡ None }
     {
         RecentPlaces {
             spots: [None; SPOTS],
@@ -45,14 +44,16 @@ impl RecentPlaces {
 
     /// The place of the prefix is remembered. Another prefix may be forgotten for it.
     pub(crate) fn keep(&mut self, prefix: Prefix, place: usize)
-        ensures { Keeps self.old self.new prefix place }
+        ensures kept { remembered self.new prefix ≡ Some place }
+        ensures spots { IsSpotSet self.old self.new prefix (Some (record { prefix = prefix; place = place })) }
     {
         self.spots[spot(prefix)] = Some(RecentPlace { prefix, place });
     }
 
-    /// The prefix is forgotten.
+    /// The prefix is forgotten, and another one of its spot.
     pub(crate) fn forget(&mut self, prefix: Prefix)
-        ensures { Forgets self.old self.new prefix }
+        ensures forgotten { remembered self.new prefix ≡ None }
+        ensures spots { IsSpotSet self.old self.new prefix None }
     {
         self.spots[spot(prefix)] = None;
     }

@@ -4,7 +4,7 @@ ghost use Rattle.std.specs.Borrow.{sem};
 ghost use Rattle.std.specs.Option.{option_copied, option_copied_mut};
 ghost use Rattle.prefix_trie.specs.TrieMap.{IsRising, found};
 ghost use Rattle.prefix_trie.specs.TrieWalks.{all_after};
-ghost use Rattle.prefix_table.specs.Lending.{lends_value};
+ghost use Rattle.prefix_table.specs.Lending.{keeps_values, lends_value};
 ghost use Rattle.prefix_table.specs.Tables.{IsPut};
 
 use crate::places::Places;
@@ -28,9 +28,9 @@ impl<V, A: Allocator> Model for PrefixTable<V, A> {
 
     ghost use Rattle.prefix_table.specs.Placed.{ArePlaced, placed};
 
-    ghost view = { λ t. record { entries = placed t.places t.values } };
+    ghost view = { λ t. record { entries = placed t.places.entries t.values } };
 
-    ghost invariant = { λ t. ArePlaced t.places t.values };
+    ghost invariant = { λ t. ArePlaced t.places.entries t.values };
 }
 
 impl<V: Drop, A: Allocator + Clone> PrefixTable<V, A> {
@@ -62,6 +62,17 @@ impl<V: Drop, A: Allocator + Clone> PrefixTable<V, A> {
         }
     }
 
+    /// The value of the prefix, whose place is remembered.
+    pub fn get_here(&mut self, prefix: Prefix) -> Option<&V>
+        ensures* same { sem 𝓛 (keeps_values V.row A.row A.Allocator self.entry) }
+        ensures value { option_copied result ≡ found self.old.entries prefix }
+    {
+        match self.places.find_here(prefix) {
+            Some(place) => self.values.get(place),
+            None => None,
+        }
+    }
+
     /// The value of the prefix, which may be written.
     pub fn get_mut(&mut self, prefix: Prefix) -> Option<&mut V>
         ensures* writes_back { sem 𝓛 (lends_value V.row A.row A.Allocator self.entry prefix result) }
@@ -86,12 +97,14 @@ impl<V: Drop, A: Allocator + Clone> PrefixTable<V, A> {
         Ok(())
     }
 
-    /// The prefix has no value any more.
-    pub fn remove(&mut self, prefix: Prefix)
-        ensures { IsPut self.old.entries self.new.entries prefix None }
+    /// The prefix has no value any more. Answers the one that it had.
+    pub fn remove(&mut self, prefix: Prefix) -> Option<V>
+        ensures value { result ≡ found self.old.entries prefix }
+        ensures put { IsPut self.old.entries self.new.entries prefix None }
     {
-        if let Some(place) = self.places.remove(prefix) {
-            self.values.remove(place);
+        match self.places.remove(prefix) {
+            Some(place) => Some(self.values.remove(place)),
+            None => None,
         }
     }
 
