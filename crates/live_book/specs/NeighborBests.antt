@@ -64,11 +64,6 @@ empty_place slot = record { slot = slot; candidate = None; standing = Behind }
 abbrev pub first_place : ℕ → Option Candidate → Place
 first_place slot candidate = record { slot = slot; candidate = candidate; standing = Leads }
 
--- the slot, where it has a candidate
-abbrev pub slot_if : ℕ → Option Candidate → Option ℕ
-slot_if slot None = None
-slot_if slot (Some c) = Some slot
-
 -- the place is one of these
 abbrev pub IsPlace : Place → List Place → Type 0
 IsPlace p [] = ⊥

@@ -3,7 +3,7 @@ ghost use Rattle.std.specs.Prelude.{◌≡◌, ℕ, ◌≤◌, ◌<◌, ◌+◌,
 ghost use Rattle.decision.specs.Selection.{IsSelected};
 ghost use Rattle.decision.specs.BookContents.{candidate_of, changed};
 ghost use Rattle.decision.specs.KeptPlaces.{ArePlaces, IsBestAt, with_changes};
-ghost use Rattle.live_book.specs.NeighborBests.{AreBests, AreFair, AreFew, HaveStood, IsBestBefore, contender, contenders_of, few_with, has_neighbor, is_in, is_kept, is_named, is_of, is_open, is_opened, keeps_lead, last_round, leads, moved, narrowed, neighbor_to_settle, opened_by, opened_of, renewed, slots_of, standing_of, to_settle_at};
+ghost use Rattle.live_book.specs.NeighborBests.{AreBests, AreFair, AreFew, HaveStood, IsBestBefore, contender, contenders_of, few_with, is_in, is_kept, is_named, is_of, is_opened, keeps_lead, last_round, leads, moved, narrowed, neighbor_to_settle, opened_by, opened_of, renewed, slots_of, to_settle_at};
 
 use crate::place::{Place, Standing};
 use arrayvec::ArrayVec;
@@ -86,28 +86,21 @@ fn opened(changes: &[Change], places: &[Place]) -> ArrayVec<u32, MAX_CANDIDATES>
     neighbors
 }
 
-// Whether the neighbor AS is one of these.
-fn has_neighbor(opened: &[u32], neighbor: u32) -> bool
-    ensures { result ≡ has_neighbor opened.now neighbor }
-{
-    opened.iter().any(|other| *other == neighbor)
-}
-
 // Whether the candidate came by one of these neighbor ASes.
 fn is_opened(opened: &[u32], candidate: Option<Candidate>) -> bool
     ensures { result ≡ is_opened opened.now candidate }
 {
     match candidate {
-        Some(candidate) => has_neighbor(opened, candidate.neighbor.0),
+        Some(candidate) => opened.contains(&candidate.neighbor.0),
         None => false,
     }
 }
 
-// How a place stands after changes that open these neighbor ASes.
-fn standing_of(changes: &[Change], opened: &[u32], place: &Place) -> Standing
-    ensures { result ≡ standing_of changes.now opened.now place.now }
+// The place after the changes, which open these neighbor ASes.
+fn moved(changes: &[Change], opened: &[u32], place: &Place) -> Place
+    ensures { result ≡ moved changes.now opened.now place.now }
 {
-    if is_named(changes, place.slot()) {
+    let standing = if is_named(changes, place.slot()) {
         Standing::Open
     } else if place.standing().leads() {
         Standing::Leads
@@ -115,18 +108,9 @@ fn standing_of(changes: &[Change], opened: &[u32], place: &Place) -> Standing
         Standing::Open
     } else {
         Standing::Behind
-    }
-}
-
-// The place after the changes.
-fn moved(changes: &[Change], opened: &[u32], place: &Place) -> Place
-    ensures { result ≡ moved changes.now opened.now place.now }
-{
-    Place::new(
-        place.slot(),
-        standing_of(changes, opened, place),
-        after(changes, place.slot(), place.candidate()),
-    )
+    };
+    let candidate = after(changes, place.slot(), place.candidate());
+    Place::new(place.slot(), standing, candidate)
 }
 
 // The place after the changes, where it stands alone. How it stands says nothing where it has no candidate.
@@ -294,8 +278,8 @@ fn settle(neighbor: u32, places: &mut [Place])
 fn neighbor_to_settle(place: &Place) -> Option<u32>
     ensures { result ≡ neighbor_to_settle place.now }
 {
-    match place.candidate() {
-        Some(candidate) if place.standing().is_open() => Some(candidate.neighbor.0),
+    match (place.candidate(), place.standing()) {
+        (Some(candidate), Standing::Open) => Some(candidate.neighbor.0),
         _ => None,
     }
 }

@@ -2,11 +2,10 @@
 ghost use Rattle.std.specs.Prelude.{◌≡◌, ◌≢◌, ◌≤◌, ◌+◌, ◌-◌, ◌^◌, ◌++◌, ◌∷◌, ◌&&◌, ◌↔◌, [], None, true, All, IfOk, IfSome, IsTrue, is_ok, length, min, not, if◌then◌else◌};
 ghost use Rattle.decision.specs.BookContents.{AreApart, candidate_of, is_placed};
 ghost use Rattle.decision.specs.KeptPlaces.{IsKept, with_changes, without_slot};
-ghost use Rattle.live_book.specs.NeighborBests.{slot_if};
 
 use crate::comparing::best_of;
 use crate::place::Place;
-use crate::places::{add_place, are_idle, candidate_at, make, remove_place, renew};
+use crate::places::{add_place, are_idle, make, place_at, remove_place, renew, two_places};
 use decision::{Candidate, Change, Meter};
 use std::alloc::{AllocError, Allocator};
 use std::marker::Model;
@@ -32,7 +31,7 @@ impl<A: Allocator> Model for ManyPlaces<A> {
 }
 
 impl<A: Allocator> ManyPlaces<A> {
-    // The slot's place with its candidate, and one for another slot, in just the room that both need.
+    // The slot's place with its candidate, and one for another slot.
     pub(crate) fn pair(
         alloc: A,
         first: u8,
@@ -42,13 +41,9 @@ impl<A: Allocator> ManyPlaces<A> {
         ensures places { IfOk result (λ many. many.places ≡ (first, candidate) ∷ (second, None) ∷ []) }
         ensures best { IfOk result (λ many. many.best ≡ candidate) }
     {
-        let mut places = Vec::new(alloc);
-        places.reserve_exact(2)?;
-        places.push_reserved(Place::first(first, candidate));
-        places.push_reserved(Place::of(second));
         Ok(ManyPlaces {
-            places,
-            best: slot_if(first, candidate),
+            places: two_places(alloc, first, candidate, second)?,
+            best: candidate.map(|_| first),
         })
     }
 
@@ -107,18 +102,8 @@ impl<A: Allocator> ManyPlaces<A> {
         ensures { result ≡ self.now.best }
     {
         match self.best {
-            Some(slot) => candidate_at(&self.places, slot),
+            Some(slot) => place_at(&self.places, slot)?,
             None => None,
         }
-    }
-}
-
-// The slot, where it has a candidate.
-fn slot_if(slot: u8, candidate: Option<Candidate>) -> Option<u8>
-    ensures { result ≡ slot_if slot candidate }
-{
-    match candidate {
-        Some(_) => Some(slot),
-        None => None,
     }
 }

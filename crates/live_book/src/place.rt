@@ -1,12 +1,12 @@
 //! A slot's place at a prefix, and how its candidate stands.
 ghost use Rattle.std.specs.Prelude.{◌≡◌};
-ghost use Rattle.live_book.specs.NeighborBests.{empty_place, first_place, is_behind, is_kept, is_open, leads};
+ghost use Rattle.live_book.specs.NeighborBests.{empty_place, is_behind, is_kept, leads};
 
 use decision::Candidate;
 use std::marker::Model;
 
 /// How a candidate stands among those of its neighbor AS.
-#[derive(Clone, Copy, Debug, PartialEq, Eq)]
+#[derive(Clone, Copy)]
 pub enum Standing {
     /// Another one is better.
     Behind,
@@ -36,16 +36,6 @@ impl Standing {
         match self {
             Standing::Leads => true,
             Standing::Won | Standing::Behind | Standing::Open => false,
-        }
-    }
-
-    // Whether it is to be compared.
-    pub(crate) fn is_open(self) -> bool
-        ensures { result ≡ is_open self }
-    {
-        match self {
-            Standing::Open => true,
-            Standing::Leads | Standing::Won | Standing::Behind => false,
         }
     }
 
@@ -102,13 +92,6 @@ impl Place {
         ensures { result ≡ empty_place slot }
     {
         Place::new(slot, Standing::Behind, None)
-    }
-
-    // The place of a slot that stood alone: its candidate is the best one.
-    pub(crate) fn first(slot: u8, candidate: Option<Candidate>) -> Place
-        ensures { result ≡ first_place slot candidate }
-    {
-        Place::new(slot, Standing::Leads, candidate)
     }
 
     pub(crate) fn slot(&self) -> u8

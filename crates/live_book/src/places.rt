@@ -1,14 +1,30 @@
 //! What is done with the places of a prefix.
-ghost use Rattle.std.specs.Prelude.{◌≡◌, ◌≤◌, ◌+◌, ◌-◌, ◌^◌, ◌++◌, ◌∷◌, ◌&&◌, [], true, IsTrue, ◌↔◌, filter, is_ok, length, min, nat_eq, not, option_and_then, if◌then◌else◌};
+ghost use Rattle.std.specs.Prelude.{◌≡◌, ◌≤◌, ◌+◌, ◌-◌, ◌^◌, ◌++◌, ◌∷◌, ◌&&◌, [], true, IfOk, IsTrue, ◌↔◌, filter, is_ok, length, max, min, nat_eq, not, option_and_then, vec_capacity, vec_len, if◌then◌else◌};
 ghost use Rattle.std.specs.Map.{lookup};
-ghost use Rattle.decision.specs.BookContents.{candidate_of, changed, is_placed};
+ghost use Rattle.decision.specs.BookContents.{candidate_of, is_placed};
 ghost use Rattle.decision.specs.KeptPlaces.{ArePlaces, IsBestAt, with_changes};
-ghost use Rattle.live_book.specs.NeighborBests.{AreBests, HaveStood, empty_place, leads, slots_of};
+ghost use Rattle.live_book.specs.NeighborBests.{AreBests, HaveStood, empty_place, first_place, leads, slots_of};
 
 use crate::comparing::{after, count_choice, open, renewed, settle_each};
-use crate::place::Place;
+use crate::place::{Place, Standing};
 use decision::{Candidate, Change, MAX_CANDIDATES, Meter};
 use std::alloc::{AllocError, Allocator};
+
+// The place of a slot that stood alone, whose candidate is the best one, and one for another slot, in the room of both.
+pub(crate) fn two_places<A: Allocator>(
+    alloc: A,
+    first: u8,
+    candidate: Option<Candidate>,
+    second: u8,
+) -> Result<Vec<Place, A>, AllocError>
+    ensures places { IfOk result (λ places. places.items ≡ first_place first candidate ∷ empty_place second ∷ []) }
+    ensures room { IfOk result (λ places. vec_capacity places ≡ 2) }
+{
+    let mut places = Vec::with_capacity(alloc, 2)?;
+    places.push_reserved(Place::new(first, Standing::Leads, candidate));
+    places.push_reserved(Place::of(second));
+    Ok(places)
+}
 
 // Makes a place for the slot, and takes no more memory than it needs.
 pub(crate) fn add_place<A: Allocator>(
@@ -18,8 +34,9 @@ pub(crate) fn add_place<A: Allocator>(
     ensures places { places.new.items ≡ (if is_ok result && not (is_placed (slots_of places.old.items) slot) then places.old.items ++ empty_place slot ∷ [] else places.old.items) }
     ensures few { length places.old.items ≤ 65 → length places.new.items ≤ 65 }
     ensures there { is_placed (slots_of places.old.items) slot ≡ true → is_ok result ≡ true }
+    ensures room { vec_capacity places.new ≤ max (vec_capacity places.old) (vec_len places.new) }
 {
-    if has_place(places, slot) {
+    if place_at(places, slot).is_some() {
         return Ok(());
     }
     if places.len() >= MAX_CANDIDATES {
@@ -37,25 +54,8 @@ pub(crate) fn remove_place<A: Allocator>(places: &mut Vec<Place, A>, slot: u8)
     places.retain(|place| slot != place.slot());
 }
 
-// Whether the slot has a place.
-fn has_place(places: &[Place], slot: u8) -> bool
-    ensures { result ≡ is_placed (slots_of places.now) slot }
-{
-    place_at(places, slot).is_some()
-}
-
-// The candidate of the slot.
-pub(crate) fn candidate_at(places: &[Place], slot: u8) -> Option<Candidate>
-    ensures { result ≡ candidate_of (slots_of places.now) slot }
-{
-    match place_at(places, slot) {
-        Some(candidate) => candidate,
-        None => None,
-    }
-}
-
 // What is at the slot's place, if it has one.
-fn place_at(places: &[Place], slot: u8) -> Option<Option<Candidate>>
+pub(crate) fn place_at(places: &[Place], slot: u8) -> Option<Option<Candidate>>
     ensures { result ≡ lookup (nat_eq slot) (slots_of places.now) }
 {
     for place in places {
@@ -71,19 +71,12 @@ pub(crate) fn are_idle(changes: &[Change], places: &[Place]) -> bool
     ensures { IsTrue result ↔ (with_changes changes.now (slots_of places.now) ≡ slots_of places.now) }
 {
     for place in places {
-        if !is_idle(changes, place) {
+        let candidate = place.candidate();
+        if !is_same(after(changes, place.slot(), candidate), candidate) {
             return false;
         }
     }
     true
-}
-
-// Whether the changes leave the candidate of the place as it is.
-fn is_idle(changes: &[Change], place: &Place) -> bool
-    ensures { IsTrue result ↔ (changed changes.now place.now.slot place.now.candidate ≡ place.now.candidate) }
-{
-    let candidate = place.candidate();
-    is_same(after(changes, place.slot(), candidate), candidate)
 }
 
 // Whether both are one candidate, or none.
@@ -91,17 +84,10 @@ pub(crate) fn is_same(first: Option<Candidate>, second: Option<Candidate>) -> bo
     ensures { IsTrue result ↔ (first ≡ second) }
 {
     match (first, second) {
-        (Some(first), Some(second)) => is_one(&first, &second),
+        (Some(first), Some(second)) => first == second,
         (None, None) => true,
         _ => false,
     }
-}
-
-// Whether both are one candidate.
-fn is_one(first: &Candidate, second: &Candidate) -> bool
-    ensures { IsTrue result ↔ (first.now ≡ second.now) }
-{
-    first == second
 }
 
 // Makes the changes of a place that stands alone, and answers the slot of its candidate: none is compared with it.
