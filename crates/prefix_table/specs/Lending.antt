@@ -2,7 +2,6 @@
 use Rattle.std.specs.Prelude.{◌≡◌, Option, Some}
 use Rattle.std.specs.Option.{OnSome}
 use Rattle.std.specs.Borrow.{LendsSo, Fml, RattleType, MutBor}
-use Rattle.std.specs.Io.BufRead.{Rests}
 use Rattle.std.specs.declared.alloc.Allocator.{Ghosts}
 use Rattle.net_prefix.specs.declared.prefix.Prefix.{Prefix}
 use Rattle.prefix_table.specs.Tables.{IsPut, TableState}
@@ -11,7 +10,3 @@ use Rattle.prefix_table.specs.contracts.table.PrefixTable.{the_row}
 -- the prefix has the last value that is written through r, and each other one what it had; with no r all stays
 abbrev pub lends_value : (V A : RattleType) (alloc : Ghosts A.Denot) → MutBor (TableState V.Denot) → Prefix → Option (MutBor V.Denot) → Fml
 lends_value V A alloc s prefix r = LendsSo (the_row V A alloc) V s r (λ n w. OnSome r (IsPut s.now.entries n.entries prefix (Some w))) (λ n. n.entries ≡ s.now.entries)
-
--- once a value that was lent to be read goes back, each prefix has what it had
-abbrev pub keeps_values : (V A : RattleType) (alloc : Ghosts A.Denot) → MutBor (TableState V.Denot) → Fml
-keeps_values V A alloc s = Rests (the_row V A alloc) s (λ n. n.entries ≡ s.now.entries)

@@ -4,7 +4,7 @@ ghost use Rattle.std.specs.Borrow.{sem};
 ghost use Rattle.std.specs.Option.{option_copied, option_copied_mut};
 ghost use Rattle.prefix_trie.specs.TrieMap.{IsRising, found};
 ghost use Rattle.prefix_trie.specs.TrieWalks.{all_after};
-ghost use Rattle.prefix_table.specs.Lending.{keeps_values, lends_value};
+ghost use Rattle.prefix_table.specs.Lending.{lends_value};
 ghost use Rattle.prefix_table.specs.Tables.{IsPut};
 
 use crate::places::Places;
@@ -57,17 +57,6 @@ impl<V: Drop, A: Allocator + Clone> PrefixTable<V, A> {
         ensures value { option_copied result ≡ found self.now.entries prefix }
     {
         match self.places.find(prefix) {
-            Some(place) => self.values.get(place),
-            None => None,
-        }
-    }
-
-    /// The value of the prefix, whose place is remembered.
-    pub fn get_here(&mut self, prefix: Prefix) -> Option<&V>
-        ensures* same { sem 𝓛 (keeps_values V.row A.row A.Allocator self.entry) }
-        ensures value { option_copied result ≡ found self.old.entries prefix }
-    {
-        match self.places.find_here(prefix) {
             Some(place) => self.values.get(place),
             None => None,
         }
