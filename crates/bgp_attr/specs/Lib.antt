@@ -1,4 +1,3 @@
-pub mod PeerKinds
 pub mod Appending
 pub mod AsPath
 pub mod AttributeFaults
@@ -7,9 +6,12 @@ pub mod AttributeSpelling
 pub mod AttributeTable
 pub mod PathAttributes
 pub mod PathReading
+pub mod PeerKinds
 pub mod ReceivedAttributes
+pub mod SegmentForms
 pub mod SoundRoutes
 pub mod Spread
 pub mod TravellingAttributes
 pub mod UnknownAttributes
+pub mod UnknownForms
 pub mod Written

@@ -11,39 +11,85 @@ use std::alloc::{AllocError, Allocator, Global};
 use std::cmp::Ordering;
 use std::marker::Model;
 
+// So many octets of a value stand in the attribute itself: most values have no more, and take no memory of their own.
+const SHORT_VALUE: usize = 28;
+
 /// An attribute: its code and its value.
 #[derive(Drop)]
 pub(crate) struct Unknown<A: Allocator> {
-    code: u8,
-    value: Vec<u8, A>,
+    form: UnknownForm<A>,
+}
+
+#[derive(Drop)]
+enum UnknownForm<A: Allocator> {
+    // The value is the first of these octets, so many.
+    Short {
+        code: u8,
+        length: u8,
+        octets: [u8; SHORT_VALUE],
+    },
+    Long {
+        code: u8,
+        value: Vec<u8, A>,
+    },
 }
 
 impl<A: Allocator> Model for Unknown<A> {
     ghost use Rattle.std.specs.Prelude.{List, ℕ};
+    ghost use Rattle.bgp_attr.specs.UnknownForms.{HasRoom, unknown_kept};
 
     ghost Value = { ℕ × List ℕ };
 
-    ghost view = { λ a. (a.code, a.value.items) };
+    ghost view = { λ a. unknown_kept a.form };
+
+    ghost invariant = { λ a. HasRoom a.form };
 }
 
 impl<A: Allocator> Unknown<A> {
     fn of(alloc: A, code: u8, value: &[u8]) -> Result<Self, AllocError>
         ensures { IfOk result (λ attribute. attribute ≡ (code, value.now)) }
     {
+        if value.len() <= SHORT_VALUE {
+            return Ok(Unknown::short(code, value));
+        }
         let value = Vec::from_slice(alloc, value)?;
-        Ok(Unknown { code, value })
+        Ok(Unknown {
+            form: UnknownForm::Long { code, value },
+        })
+    }
+
+    fn short(code: u8, value: &[u8]) -> Self
+        requires { length value.now ≤ 28 }
+        ensures { result ≡ (code, value.now) }
+    {
+        let mut octets = [0; SHORT_VALUE];
+        octets[..value.len()].copy_from_slice(value);
+        let length = value.len() as u8;
+        Unknown {
+            form: UnknownForm::Short {
+                code,
+                length,
+                octets,
+            },
+        }
     }
 
     pub(crate) fn code(&self) -> u8
         ensures { result ≡ self.now.0 }
     {
-        self.code
+        match &self.form {
+            UnknownForm::Short { code, .. } => *code,
+            UnknownForm::Long { code, .. } => *code,
+        }
     }
 
     pub(crate) fn value(&self) -> &[u8]
         ensures { result.now ≡ self.now.1 }
     {
-        self.value.as_slice()
+        match &self.form {
+            UnknownForm::Short { length, octets, .. } => &octets[..usize::from(*length)],
+            UnknownForm::Long { value, .. } => value.as_slice(),
+        }
     }
 }
 
@@ -125,7 +171,7 @@ fn place_of<A: Allocator>(attributes: &[Unknown<A>], code: u8) -> usize
     let mut place = 0;
     let mut rest = attributes;
     while let [attribute, behind @ ..] = rest {
-        match code.cmp(&attribute.code) {
+        match code.cmp(&attribute.code()) {
             Ordering::Greater => place += 1,
             _ => return place,
         }
@@ -139,7 +185,7 @@ fn has_code<A: Allocator>(attributes: &[Unknown<A>], place: usize, code: u8) -> 
     ensures { result ≡ has_code attributes.now place code }
 {
     match attributes.get(place) {
-        Some(attribute) => code.cmp(&attribute.code).is_eq(),
+        Some(attribute) => code.cmp(&attribute.code()).is_eq(),
         None => false,
     }
 }
