@@ -4,6 +4,7 @@ pub mod AttributeFaults
 pub mod AttributeReading
 pub mod AttributeSpelling
 pub mod AttributeTable
+pub mod KeptUnknown
 pub mod PathAttributes
 pub mod PathReading
 pub mod PeerKinds
