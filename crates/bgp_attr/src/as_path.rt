@@ -1,5 +1,5 @@
 //! AS paths (RFC 4271 section 4.3): segments of AS numbers.
-ghost use Rattle.std.specs.Prelude.{◌≡◌, ◌≤◌, ◌<◌, ◌==◌, length};
+ghost use Rattle.std.specs.Prelude.{◌≡◌, ◌≤◌, ◌<◌, ◌==◌, length, take};
 ghost use Rattle.std.specs.List.{AllByRecursion, list_any};
 ghost use Rattle.bgp_attr.specs.AsPath.{PathSegment, path_octets, path_length_of, counted, has_as, last_as, origin_as_of, neighbor_as_of, first_as};
 ghost use Rattle.bgp_attr.specs.AttributeSpelling.{IsSegment, kind_octet};
@@ -40,22 +40,39 @@ impl SegmentKind {
     }
 }
 
+// So many ASes stand in a segment itself: most segments have no more, and take no memory of their own.
+pub(crate) const FEW_ASNS: usize = 6;
+
 /// A segment of 1 to 255 ASes.
 #[derive(Drop)]
 pub struct Segment<A: Allocator = Global> {
-    kind: SegmentKind,
-    asns: Vec<Asn, A>,
+    form: SegmentForm<A>,
+}
+
+#[derive(Drop)]
+enum SegmentForm<A: Allocator> {
+    // The first ASes of these, so many.
+    Few {
+        kind: SegmentKind,
+        count: u8,
+        asns: [Asn; FEW_ASNS],
+    },
+    Many {
+        kind: SegmentKind,
+        asns: Vec<Asn, A>,
+    },
 }
 
 impl<A: Allocator> Model for Segment<A> {
     ghost use Rattle.std.specs.Prelude.{◌<◌, ◌≤◌, length};
     ghost use Rattle.bgp_attr.specs.AsPath.{PathSegment};
+    ghost use Rattle.bgp_attr.specs.SegmentForms.{HasRoom, segment_kept};
 
     ghost Value = { PathSegment };
 
-    ghost view = { λ s. record { kind = s.kind; asns = s.asns.items } };
+    ghost view = { λ s. segment_kept s.form };
 
-    ghost invariant = { λ s. (0 < length s.asns.items) × (length s.asns.items ≤ 255) };
+    ghost invariant = { λ s. (0 < length (segment_kept s.form).asns) × (length (segment_kept s.form).asns ≤ 255) × HasRoom s.form };
 }
 
 impl<A: Allocator> Segment<A> {
@@ -63,14 +80,29 @@ impl<A: Allocator> Segment<A> {
         requires { (0 < length asns.items) × (length asns.items ≤ 255) }
         ensures { result ≡ record { kind = kind; asns = asns.items } }
     {
-        Segment { kind, asns }
+        Segment {
+            form: SegmentForm::Many { kind, asns },
+        }
+    }
+
+    // The segment of the first ASes of these, so many.
+    pub(crate) fn few(kind: SegmentKind, count: u8, asns: [Asn; FEW_ASNS]) -> Self
+        requires { (0 < count) × (count ≤ 6) }
+        ensures { result ≡ record { kind = kind; asns = take count asns } }
+    {
+        Segment {
+            form: SegmentForm::Few { kind, count, asns },
+        }
     }
 
     /// Whether the segment is a set.
     pub fn kind(&self) -> SegmentKind
         ensures { result ≡ self.now.kind }
     {
-        self.kind
+        match &self.form {
+            SegmentForm::Few { kind, .. } => *kind,
+            SegmentForm::Many { kind, .. } => *kind,
+        }
     }
 
     /// The ASes.
@@ -79,16 +111,19 @@ impl<A: Allocator> Segment<A> {
         ensures few { length result.now ≤ 255 }
         ensures some { 0 < length result.now }
     {
-        self.asns.as_slice()
+        match &self.form {
+            SegmentForm::Few { count, asns, .. } => &asns[..usize::from(*count)],
+            SegmentForm::Many { asns, .. } => asns.as_slice(),
+        }
     }
 
     // What the segment counts for in the length of a path.
     fn counted(&self) -> u32
         ensures { result ≡ counted self.now.kind (length self.now.asns) }
     {
-        match self.kind {
+        match self.kind() {
             SegmentKind::Set => 1,
-            SegmentKind::Sequence => self.asns.len() as u32,
+            SegmentKind::Sequence => self.asns().len() as u32,
         }
     }
 }

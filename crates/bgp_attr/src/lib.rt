@@ -20,6 +20,7 @@ mod peer;
 mod prepending;
 mod reading;
 mod unknown;
+mod unknown_attribute;
 mod writing;
 
 pub use aggregator::Aggregator;

@@ -1,12 +1,12 @@
 //! Reading an AS_PATH (RFC 4271 section 4.3, RFC 6793).
-ghost use Rattle.std.specs.Prelude.{◌≡◌, List, [], ◌∷◌, ◌++◌, ◌<◌, ◌≤◌, ◌^◌, Some, None, if◌then◌else◌, length, is_some, IfOk, IfSome, OnOk};
+ghost use Rattle.std.specs.Prelude.{◌≡◌, List, [], ◌∷◌, ◌++◌, ◌<◌, ◌≤◌, ◌^◌, Some, None, if◌then◌else◌, length, is_some, take, ◌+◌, IfOk, IfSome, OnOk};
 ghost use Rattle.std.specs.Option.{option_map};
 ghost use Rattle.bgp_attr.specs.AttributeReading.{segment_of, path_items};
 ghost use Rattle.bgp_attr.specs.AsPath.{PathSegment};
 ghost use Rattle.bgp_attr.specs.PathReading as reading;
 ghost use Rattle.bgp_attr.specs.PathReading.{asns_in, has_zero, is_malformed_path, path_at, segment_at};
 
-use crate::as_path::{AsPath, Segment, SegmentKind};
+use crate::as_path::{AsPath, FEW_ASNS, Segment, SegmentKind};
 use crate::peer::PeerKind;
 use net_prefix::Asn;
 use std::alloc::{AllocError, Allocator};
@@ -139,8 +139,48 @@ fn read_segment<A: Allocator>(alloc: A, segment: RawSegment<'_>) -> Result<Segme
     requires few { length segment.asns.now ≤ 1020 }
     ensures { IfOk result (λ read. read ≡ segment_of segment.entry) }
 {
+    if segment.asns.len() <= 4 * FEW_ASNS {
+        return Ok(read_few(segment));
+    }
     let asns = read_asns(alloc, segment.asns)?;
     Ok(Segment::new(segment.kind, asns))
+}
+
+// A segment of so few ASes that they stand in it.
+fn read_few<A: Allocator>(segment: RawSegment<'_>) -> Segment<A>
+    requires some { 4 ≤ length segment.asns.now }
+    requires few { length segment.asns.now ≤ 24 }
+    ensures { result ≡ segment_of segment.entry }
+{
+    let (count, asns) = few_asns(segment.asns);
+    Segment::few(segment.kind, count, asns)
+}
+
+// How many ASes there are, and they, with others behind them.
+fn few_asns(octets: &[u8]) -> (u8, [Asn; FEW_ASNS])
+    requires { length octets.now ≤ 24 }
+    ensures asns { take result.0 result.1 ≡ asns_in octets.now }
+    ensures few { result.0 ≤ 6 }
+    ensures some { 4 ≤ length octets.now → 0 < result.0 }
+{
+    let mut count = 0usize;
+    let mut asns = [Asn(0); FEW_ASNS];
+    let mut rest = octets;
+    while let [a, b, c, d, behind @ ..] = rest {
+        put_asn(&mut asns, count, Asn(u32::from_be_bytes([*a, *b, *c, *d])));
+        count += 1;
+        rest = behind;
+    }
+    (count as u8, asns)
+}
+
+// Puts the AS behind so many others.
+#[tactic(auto, using(std::proofs::lemmas::List::take_more_set))]
+fn put_asn(asns: &mut [Asn; FEW_ASNS], count: usize, asn: Asn)
+    requires { count < 6 }
+    ensures { take (count + 1) asns.new ≡ take count asns.old ++ asn ∷ [] }
+{
+    asns[count] = asn;
 }
 
 fn read_asns<A: Allocator>(alloc: A, octets: &[u8]) -> Result<Vec<Asn, A>, AllocError>

@@ -304,7 +304,7 @@ fn read_unknown<A: Allocator + Clone>(
 ) -> Result<UnknownAttributes<A>, AllocError>
     ensures { IfOk result (λ unknown. unknown ≡ unknown_in (split_of octets.now).0) }
 {
-    let mut unknown = UnknownAttributes::new(alloc.clone()?)?;
+    let mut unknown = UnknownAttributes::new(alloc.clone()?);
     let mut rest = octets;
     while let Some((attribute, behind)) = split_attribute(rest) {
         if attribute.is_kept() {

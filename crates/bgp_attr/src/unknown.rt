@@ -5,71 +5,49 @@ ghost use Rattle.std.specs.List.{insert};
 ghost use Rattle.std.specs.Iterator.{YieldsFirstBy, item_count};
 ghost use Rattle.std.specs.Ordering.{nat_cmp};
 ghost use Rattle.bgp_attr.specs.AttributeTable.{is_passed_on};
+ghost use Rattle.bgp_attr.specs.KeptUnknown.{list_kept};
 ghost use Rattle.bgp_attr.specs.UnknownAttributes.{ArePassedOn, has_code, place_of};
 
+use crate::unknown_attribute::Unknown;
 use std::alloc::{AllocError, Allocator, Global};
 use std::cmp::Ordering;
 use std::marker::Model;
-
-/// An attribute: its code and its value.
-#[derive(Drop)]
-pub(crate) struct Unknown<A: Allocator> {
-    code: u8,
-    value: Vec<u8, A>,
-}
-
-impl<A: Allocator> Model for Unknown<A> {
-    ghost use Rattle.std.specs.Prelude.{List, ℕ};
-
-    ghost Value = { ℕ × List ℕ };
-
-    ghost view = { λ a. (a.code, a.value.items) };
-}
-
-impl<A: Allocator> Unknown<A> {
-    fn of(alloc: A, code: u8, value: &[u8]) -> Result<Self, AllocError>
-        ensures { IfOk result (λ attribute. attribute ≡ (code, value.now)) }
-    {
-        let value = Vec::from_slice(alloc, value)?;
-        Ok(Unknown { code, value })
-    }
-
-    pub(crate) fn code(&self) -> u8
-        ensures { result ≡ self.now.0 }
-    {
-        self.code
-    }
-
-    pub(crate) fn value(&self) -> &[u8]
-        ensures { result.now ≡ self.now.1 }
-    {
-        self.value.as_slice()
-    }
-}
+use std::mem;
 
 /// The unknown attributes of a route that are passed on, in rising order of their codes. There are few, mostly one.
 #[derive(Drop)]
 pub struct UnknownAttributes<A: Allocator = Global> {
     alloc: A,
-    pub(crate) attributes: Vec<Unknown<A>, A>,
+    pub(crate) attributes: UnknownList<A>,
+}
+
+// One alone takes no block.
+#[derive(Drop)]
+pub(crate) enum UnknownList<A: Allocator> {
+    Nothing,
+    One(Unknown<A>),
+    Several(Vec<Unknown<A>, A>),
 }
 
 impl<A: Allocator> Model for UnknownAttributes<A> {
+    ghost use Rattle.bgp_attr.specs.KeptUnknown.{list_kept};
     ghost use Rattle.bgp_attr.specs.UnknownAttributes.{ArePassedOn, Unknown};
 
     ghost Value = { Unknown };
 
-    ghost view = { λ u. u.attributes.items };
+    ghost view = { λ u. list_kept u.attributes };
 
-    ghost invariant = { λ u. ArePassedOn u.attributes.items };
+    ghost invariant = { λ u. ArePassedOn (list_kept u.attributes) };
 }
 
 impl<A: Allocator + Clone> UnknownAttributes<A> {
-    pub(crate) fn new(alloc: A) -> Result<Self, AllocError>
-        ensures { IfOk result (λ unknown. unknown ≡ []) }
+    pub(crate) fn new(alloc: A) -> Self
+        ensures { result ≡ [] }
     {
-        let attributes = Vec::new(alloc.clone()?);
-        Ok(UnknownAttributes { alloc, attributes })
+        UnknownAttributes {
+            alloc,
+            attributes: UnknownList::Nothing,
+        }
     }
 
     // Keeps the value of an attribute with this code.
@@ -79,7 +57,60 @@ impl<A: Allocator + Clone> UnknownAttributes<A> {
         ensures { OnOk result (self.new ≡ insert_entry nat_cmp self.old code value.now) }
     {
         let attribute = Unknown::of(self.alloc.clone()?, code, value)?;
-        put(&mut self.attributes, attribute)
+        put_in_list(&self.alloc, &mut self.attributes, attribute)
+    }
+}
+
+// Puts the attribute in its place, where one with its code may stand.
+fn put_in_list<A: Allocator + Clone>(
+    alloc: &A,
+    list: &mut UnknownList<A>,
+    attribute: Unknown<A>,
+) -> Result<(), AllocError>
+    ensures kept { OnOk result (list_kept list.new ≡ insert_entry nat_cmp (list_kept list.old) attribute.0 attribute.1) }
+    ensures refused { OnErr result (list_kept list.new ≡ list_kept list.old) }
+{
+    match list {
+        UnknownList::Nothing => {
+            *list = UnknownList::One(attribute);
+            Ok(())
+        }
+        UnknownList::One(_) => put_beside(alloc, list, attribute),
+        UnknownList::Several(attributes) => put(attributes, attribute),
+    }
+}
+
+fn put_beside<A: Allocator + Clone>(
+    alloc: &A,
+    list: &mut UnknownList<A>,
+    attribute: Unknown<A>,
+) -> Result<(), AllocError>
+    ensures kept { OnOk result (list_kept list.new ≡ insert_entry nat_cmp (list_kept list.old) attribute.0 attribute.1) }
+    ensures refused { OnErr result (list_kept list.new ≡ list_kept list.old) }
+{
+    let mut several = take_several(alloc, list)?;
+    let kept = put(&mut several, attribute);
+    *list = UnknownList::Several(several);
+    kept
+}
+
+// Takes the attributes out of the list, with room for two.
+fn take_several<A: Allocator + Clone>(
+    alloc: &A,
+    list: &mut UnknownList<A>,
+) -> Result<Vec<Unknown<A>, A>, AllocError>
+    ensures taken { IfOk result (λ several. several.items ≡ list_kept list.old) }
+    ensures refused { OnErr result (list_kept list.new ≡ list_kept list.old) }
+{
+    let mut room = Vec::new(alloc.clone()?);
+    room.reserve_exact(2)?;
+    match mem::replace(list, UnknownList::Nothing) {
+        UnknownList::Nothing => Ok(room),
+        UnknownList::One(first) => {
+            room.push_reserved(first);
+            Ok(room)
+        }
+        UnknownList::Several(several) => Ok(several),
     }
 }
 
@@ -125,7 +156,7 @@ fn place_of<A: Allocator>(attributes: &[Unknown<A>], code: u8) -> usize
     let mut place = 0;
     let mut rest = attributes;
     while let [attribute, behind @ ..] = rest {
-        match code.cmp(&attribute.code) {
+        match code.cmp(&attribute.code()) {
             Ordering::Greater => place += 1,
             _ => return place,
         }
@@ -139,7 +170,7 @@ fn has_code<A: Allocator>(attributes: &[Unknown<A>], place: usize, code: u8) -> 
     ensures { result ≡ has_code attributes.now place code }
 {
     match attributes.get(place) {
-        Some(attribute) => code.cmp(&attribute.code).is_eq(),
+        Some(attribute) => code.cmp(&attribute.code()).is_eq(),
         None => false,
     }
 }
@@ -158,8 +189,19 @@ impl<A: Allocator> UnknownAttributes<A> {
     pub fn iter(&self) -> UnknownValues<'_, A>
         ensures { result ≡ self.now }
     {
-        UnknownValues {
-            rest: self.attributes.as_slice(),
+        match &self.attributes {
+            UnknownList::Nothing => UnknownValues {
+                first: None,
+                rest: &[],
+            },
+            UnknownList::One(attribute) => UnknownValues {
+                first: Some(attribute),
+                rest: &[],
+            },
+            UnknownList::Several(attributes) => UnknownValues {
+                first: None,
+                rest: attributes.as_slice(),
+            },
         }
     }
 }
@@ -167,15 +209,19 @@ impl<A: Allocator> UnknownAttributes<A> {
 /// Codes with their values, in rising order of the codes. It is seen as those still to come.
 #[derive(Drop)]
 pub struct UnknownValues<'a, A: Allocator = Global> {
+    // That which stands alone, or in front of the rest.
+    first: Option<&'a Unknown<A>>,
     rest: &'a [Unknown<A>],
 }
 
 impl<'a, A: Allocator> Model for UnknownValues<'a, A> {
+    ghost use Rattle.std.specs.Option.{option_copied};
+    ghost use Rattle.bgp_attr.specs.KeptUnknown.{still_to_come};
     ghost use Rattle.bgp_attr.specs.UnknownAttributes.{Unknown};
 
     ghost Value = { Unknown };
 
-    ghost view = { λ v. v.rest.now };
+    ghost view = { λ v. still_to_come (option_copied v.first) v.rest.now };
 }
 
 impl<'a, A: Allocator> Iterator for UnknownValues<'a, A> {
@@ -186,6 +232,10 @@ impl<'a, A: Allocator> Iterator for UnknownValues<'a, A> {
     ghost remaining = { item_count (λ rest. rest) };
 
     fn next(&mut self) -> Option<(u8, &'a [u8])> {
+        if let Some(first) = self.first {
+            self.first = None;
+            return Some((first.code(), first.value()));
+        }
         let [attribute, behind @ ..] = self.rest else {
             return None;
         };

@@ -15,7 +15,8 @@ use crate::attribute_type::{AttributeType, TYPES};
 use crate::attrs::Origin;
 use crate::path_writing::write_path;
 use crate::prepending::PrependedPath;
-use crate::unknown::UnknownAttributes;
+use crate::unknown::{UnknownAttributes, UnknownList};
+use crate::unknown_attribute::Unknown;
 use arrayvec::ArrayVec;
 use std::alloc::{AllocError, Allocator, Global};
 
@@ -210,7 +211,21 @@ fn append_part<A: Allocator>(
 ) -> bool
     ensures { Appends result out.old.items out.new.items (unknown_spelling first unknown.now) }
 {
-    let mut rest = unknown.attributes.as_slice();
+    match &unknown.attributes {
+        UnknownList::Nothing => true,
+        UnknownList::One(alone) => append_in_part(first, alone.code(), alone.value(), out),
+        UnknownList::Several(several) => append_list(several.as_slice(), first, out),
+    }
+}
+
+fn append_list<A: Allocator>(
+    attributes: &[Unknown<A>],
+    first: bool,
+    out: &mut ArrayVec<u8, 4096>,
+) -> bool
+    ensures { Appends result out.old.items out.new.items (unknown_spelling first attributes.now) }
+{
+    let mut rest = attributes;
     while let [attribute, behind @ ..] = rest {
         if !append_in_part(first, attribute.code(), attribute.value(), out) {
             return false;
