@@ -83,4 +83,4 @@ pub at_most_64 : (hs : List Holding) → IsCompact hs → length hs ≤ 64
 at_most_64 hs compact = omega (arith, few hs compact.0, compact.1, held_at_most hs 64)
 
 pub at_most_65 : (hs : List Holding) → AreBounded hs → length hs ≤ 65
-at_most_65 hs bounded = omega (arith, few hs bounded.0, bounded.1, held_at_most hs 64)
+at_most_65 hs bounded = omega (arith, few hs bounded.0, bounded.2, held_at_most hs 64)

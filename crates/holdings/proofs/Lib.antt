@@ -1,2 +1,3 @@
 pub mod FewHoldings
 pub mod HoldingLists
+pub mod UnlikeHoldings

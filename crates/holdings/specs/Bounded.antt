@@ -1,6 +1,6 @@
 -- How many holdings there are of one prefix: no more than its peers need, and one that was made ready (own).
 use Rattle.std.specs.Prelude.{ℕ, ◌≡◌, ◌≤◌, ◌<◌, ◌^◌, ◌==◌, ◌+◌, true, List, [], ◌∷◌, None, ⊤, if◌then◌else◌}
-use Rattle.holdings.specs.Holdings.{Holding, octets_among}
+use Rattle.holdings.specs.Holdings.{Holding, IsListedAmong, octets_among}
 use Rattle.rib_out.specs.Slots.{has_slot}
 
 -- each has slots of the 64, and no slot is of two of them
@@ -13,9 +13,14 @@ abbrev pub unheld_count : List Holding → ℕ
 unheld_count [] = 0
 unheld_count (h ∷ hs) = (if h.slots == 0 then 1 else 0) + unheld_count hs
 
--- what holds always: a holding that no peer holds is the one that was made ready
+-- each list of octets is there once
+abbrev pub AreUnlike : List Holding → Type 0
+AreUnlike [] = ⊤
+AreUnlike (h ∷ hs) = (IsListedAmong h.octets hs → ⊥) × AreUnlike hs
+
+-- what holds always: each list of octets is there once, and a holding that no peer holds is the one that was made ready
 abbrev pub AreBounded : List Holding → Type 0
-AreBounded hs = AreApart hs × (unheld_count hs ≤ 1)
+AreBounded hs = AreApart hs × AreUnlike hs × (unheld_count hs ≤ 1)
 
 -- each of them is held by some peer, so that there are no more than peers
 abbrev pub IsCompact : List Holding → Type 0

@@ -1,5 +1,5 @@
 -- Attributes that peers hold of one prefix, in a chain of blocks.
-use Rattle.std.specs.Prelude.{ℕ, ◌≡◌, ◌==◌, Bool, not, List, [], Option, Some, None, Box, if◌then◌else◌}
+use Rattle.std.specs.Prelude.{ℕ, ◌≡◌, ◌==◌, Bool, not, List, [], Option, Some, None, Box, map, if◌then◌else◌}
 use Rattle.std.specs.List.{list_any}
 use Rattle.holdings.specs.Holdings.{Holding, IsListedAmong, octets_among}
 
@@ -11,6 +11,10 @@ list_of (Some list) = list.value
 -- whether any peer holds some of them
 abbrev pub any_held : List Holding → Bool
 any_held list = list_any (λ holding. not (holding.slots == 0)) list
+
+-- the octets of each
+abbrev pub octets_listed : List Holding → List (List ℕ)
+octets_listed list = map (λ holding. holding.octets) list
 
 -- what was listed is listed
 abbrev pub KeepsListed : List Holding → List Holding → Type 0

@@ -1,9 +1,9 @@
 //! Attributes that peers hold of one prefix, each with the slots of its peers, in a chain of blocks.
 ghost use Rattle.std.specs.Prelude.{◌≡◌, ◌<◌, ◌==◌, ◌∷◌, ◌↔◌, ◌≤◌, [], suc, ℕ, None, Some, IfOk, OnErr, OnOk, IsTrue, length, true, false, if◌then◌else◌};
 ghost use Rattle.std.specs.Option.{option_copied};
-ghost use Rattle.holdings.specs.Bounded.{AreApart, unheld_count};
+ghost use Rattle.holdings.specs.Bounded.{AreApart, AreUnlike, unheld_count};
 ghost use Rattle.holdings.specs.Holdings.{IsListedAmong, octets_among};
-ghost use Rattle.holdings.specs.HoldingLists.{IsMarked, KeepsListed, any_held, list_of};
+ghost use Rattle.holdings.specs.HoldingLists.{IsMarked, KeepsListed, any_held, list_of, octets_listed};
 
 use crate::sent::SentAttributes;
 use arrayvec::ArrayVec;
@@ -104,6 +104,7 @@ impl<A: Allocator> HoldingList<A> {
         requires listed { IsListedAmong sent.now self.old }
         ensures marked { IsMarked slot sent.now self.old self.new }
         ensures apart { AreApart self.old → AreApart self.new }
+        ensures octets { octets_listed self.new ≡ octets_listed self.old }
     {
         self.clear(slot);
         if self.mark_same(slot, sent) {
@@ -120,6 +121,7 @@ impl<A: Allocator> HoldingList<A> {
         ensures held { (s : ℕ) → octets_among self.new s ≡ (if s == slot then None else octets_among self.old s) }
         ensures listed { KeepsListed self.old self.new }
         ensures apart { AreApart self.old → AreApart self.new }
+        ensures octets { octets_listed self.new ≡ octets_listed self.old }
     {
         self.slots = slots::without(self.slots, slot);
         let Some(more) = &mut self.more else {
@@ -134,6 +136,7 @@ impl<A: Allocator> HoldingList<A> {
         requires none { octets_among self.old slot ≡ None }
         ensures yes { result ≡ true → IsMarked slot sent.now self.old self.new }
         ensures apart { AreApart self.old → AreApart self.new }
+        ensures octets { octets_listed self.new ≡ octets_listed self.old }
         ensures no { result ≡ false → self.new ≡ self.old }
     {
         if self.sent.is_same(sent) {
@@ -153,6 +156,7 @@ impl<A: Allocator> HoldingList<A> {
         requires listed { IsListedAmong octets.now self.old }
         ensures marked { IsMarked slot octets.now self.old self.new }
         ensures apart { AreApart self.old → AreApart self.new }
+        ensures octets { octets_listed self.new ≡ octets_listed self.old }
     {
         if self.sent.are(octets) {
             self.slots = slots::with(self.slots, slot);
@@ -163,14 +167,17 @@ impl<A: Allocator> HoldingList<A> {
         }
     }
 
-    /// Makes a holding for attributes that no peer holds yet.
+    /// Makes a holding for attributes of which there is none.
+    #[tactic(auto, using(crate::proofs::UnlikeHoldings::unlike_put))]
     pub(crate) fn add(&mut self, alloc: &A, sent: &SentAttributes<A>) -> Result<(), AllocError>
     where
         A: Clone,
+        requires { IsListedAmong sent.now self.old → ⊥ }
         ensures listed { OnOk result (IsListedAmong sent.now self.new) }
         ensures held { (s : ℕ) → octets_among self.new s ≡ octets_among self.old s }
         ensures any { any_held self.new ≡ any_held self.old }
         ensures apart { AreApart self.old → AreApart self.new }
+        ensures unlike { AreUnlike self.old → AreUnlike self.new }
         ensures few { unheld_count self.new ≤ suc (unheld_count self.old) }
         ensures refused { OnErr result (self.new ≡ self.old) }
     {
@@ -235,6 +242,8 @@ pub(crate) fn needed<A: Allocator>(
     ensures held { (s : ℕ) → octets_among (list_of result) s ≡ octets_among list.value s }
     ensures any { any_held (list_of result) ≡ any_held list.value }
     ensures apart { AreApart list.value → AreApart (list_of result) }
+    ensures listed { KeepsListed (list_of result) list.value }
+    ensures unlike { AreUnlike list.value → AreUnlike (list_of result) }
     ensures none { unheld_count (list_of result) ≡ 0 }
 {
     let more = match list.more.take() {

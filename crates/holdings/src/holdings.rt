@@ -12,7 +12,7 @@ use rib_out::slots;
 use std::alloc::{AllocError, Allocator, Global};
 use std::marker::Model;
 
-/// What the peers hold of one prefix: their Adj-RIBs-Out (RFC 4271 section 3.2).
+/// What the peers hold of one prefix: their Adj-RIBs-Out (RFC 4271 section 3.2), each list of octets once.
 #[derive(Drop)]
 pub struct Holdings<A: Allocator = Global> {
     kept: Kept<A>,
@@ -101,6 +101,7 @@ impl<A: Allocator> Holdings<A> {
     }
 
     /// The slot's peer holds nothing of the prefix any more. Holdings that nobody needs go.
+    #[tactic(auto, using(crate::proofs::UnlikeHoldings::unlike_by_octets))]
     pub fn drop_slot(&mut self, slot: u8)
         requires { slot < 64 }
         ensures held { (s : ℕ) → held_by self.new s ≡ (if s == slot then None else held_by self.old s) }

@@ -1,9 +1,9 @@
 //! How what the peers hold of one prefix is kept.
 ghost use Rattle.std.specs.Prelude.{◌≡◌, ◌↔◌, ◌≤◌, ◌<◌, ◌==◌, [], suc, ℕ, None, OnErr, OnOk, IsTrue, if◌then◌else◌};
 ghost use Rattle.std.specs.Option.{option_copied};
-ghost use Rattle.holdings.specs.Bounded.{AreApart, IsCompact, unheld_count};
+ghost use Rattle.holdings.specs.Bounded.{AreApart, AreUnlike, IsCompact, unheld_count};
 ghost use Rattle.holdings.specs.Holdings.{IsListedAmong, octets_among};
-ghost use Rattle.holdings.specs.HoldingLists.{IsMarked, any_held};
+ghost use Rattle.holdings.specs.HoldingLists.{IsMarked, KeepsListed, any_held, octets_listed};
 
 use crate::holding_list::{self, HoldingList};
 use crate::sent::SentAttributes;
@@ -87,14 +87,16 @@ impl<A: Allocator> Kept<A> {
         }
     }
 
-    /// Makes a holding for attributes that no peer holds yet.
+    /// Makes a holding for attributes of which there is none.
     pub(crate) fn add(&mut self, alloc: &A, sent: &SentAttributes<A>) -> Result<(), AllocError>
     where
         A: Clone,
+        requires { IsListedAmong sent.now self.old → ⊥ }
         ensures listed { OnOk result (IsListedAmong sent.now self.new) }
         ensures held { (s : ℕ) → octets_among self.new s ≡ octets_among self.old s }
         ensures any { any_held self.new ≡ any_held self.old }
         ensures apart { AreApart self.old → AreApart self.new }
+        ensures unlike { AreUnlike self.old → AreUnlike self.new }
         ensures few { unheld_count self.new ≤ suc (unheld_count self.old) }
         ensures refused { OnErr result (self.new ≡ self.old) }
     {
@@ -114,11 +116,13 @@ impl<A: Allocator> Kept<A> {
     }
 
     /// The slot's peer holds these attributes from now on. There is a holding of them. Holdings that nobody needs go.
+    #[tactic(auto, using(crate::proofs::UnlikeHoldings::unlike_by_octets))]
     pub(crate) fn give(&mut self, slot: u8, sent: &SentAttributes<A>)
         requires few { slot < 64 }
         requires listed { IsListedAmong sent.now self.old }
         ensures marked { IsMarked slot sent.now self.old self.new }
         ensures compact { AreApart self.old → IsCompact self.new }
+        ensures unlike { AreUnlike self.old → AreUnlike self.new }
     {
         self.mark(slot, sent);
         self.compact();
@@ -131,6 +135,7 @@ impl<A: Allocator> Kept<A> {
         requires listed { IsListedAmong sent.now self.old }
         ensures marked { IsMarked slot sent.now self.old self.new }
         ensures apart { AreApart self.old → AreApart self.new }
+        ensures octets { octets_listed self.new ≡ octets_listed self.old }
     {
         let Form::Many(list) = &mut self.form else {
             self.slots = slots::with(self.slots, slot);
@@ -144,6 +149,7 @@ impl<A: Allocator> Kept<A> {
         requires { slot < 64 }
         ensures held { (s : ℕ) → octets_among self.new s ≡ (if s == slot then None else octets_among self.old s) }
         ensures apart { AreApart self.old → AreApart self.new }
+        ensures octets { octets_listed self.new ≡ octets_listed self.old }
     {
         let Form::Many(list) = &mut self.form else {
             self.slots = slots::without(self.slots, slot);
@@ -157,6 +163,8 @@ impl<A: Allocator> Kept<A> {
         ensures held { (s : ℕ) → octets_among self.new s ≡ octets_among self.old s }
         ensures any { any_held self.new ≡ any_held self.old }
         ensures compact { AreApart self.old → IsCompact self.new }
+        ensures listed { KeepsListed self.new self.old }
+        ensures unlike { AreUnlike self.old → AreUnlike self.new }
     {
         match mem::replace(&mut self.form, Form::Nothing) {
             Form::Nothing => {}
@@ -174,6 +182,8 @@ impl<A: Allocator> Kept<A> {
         ensures held { (s : ℕ) → octets_among self.new s ≡ octets_among list.value s }
         ensures any { any_held self.new ≡ any_held list.value }
         ensures compact { AreApart list.value → IsCompact self.new }
+        ensures listed { KeepsListed self.new list.value }
+        ensures unlike { AreUnlike list.value → AreUnlike self.new }
     {
         let Some(list) = holding_list::needed(list) else {
             self.form = Form::Nothing;

@@ -11,8 +11,9 @@
 //! holds; `renew` and `ask` say what it has asked for again. `Kept` has the holdings: none, one in place, or a
 //! `HoldingList` of blocks.
 //!
-//! What holds always (`AreBounded`): no slot is in two holdings, and one of them at most has no slot, which was made ready
-//! last. So there are 65 at most (`at_most_65`). Behind `hold`, `drop_slot` and `tidy` each has a slot (`IsCompact`).
+//! What holds always (`AreBounded`): no slot is in two holdings, no two have the same octets, and one of them at most has no
+//! slot, which was made ready last. So there are 65 at most (`at_most_65`). Behind `hold`, `drop_slot` and `tidy`, and where
+//! `make_ready` was refused memory, each has a slot (`IsCompact`).
 #![tactic(auto)]
 
 mod holding_list;
