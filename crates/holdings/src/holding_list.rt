@@ -1,5 +1,5 @@
 //! Attributes that peers hold of one prefix, each with the slots of its peers, in a chain of blocks.
-ghost use Rattle.std.specs.Prelude.{◌≡◌, ◌<◌, ◌==◌, ◌∷◌, ◌↔◌, ◌≤◌, [], suc, ℕ, None, Some, IfOk, OnOk, IsTrue, length, true, false, if◌then◌else◌};
+ghost use Rattle.std.specs.Prelude.{◌≡◌, ◌<◌, ◌==◌, ◌∷◌, ◌↔◌, ◌≤◌, [], suc, ℕ, None, Some, IfOk, OnErr, OnOk, IsTrue, length, true, false, if◌then◌else◌};
 ghost use Rattle.std.specs.Option.{option_copied};
 ghost use Rattle.holdings.specs.Bounded.{AreApart, unheld_count};
 ghost use Rattle.holdings.specs.Holdings.{IsListedAmong, octets_among};
@@ -172,6 +172,7 @@ impl<A: Allocator> HoldingList<A> {
         ensures any { any_held self.new ≡ any_held self.old }
         ensures apart { AreApart self.old → AreApart self.new }
         ensures few { unheld_count self.new ≤ suc (unheld_count self.old) }
+        ensures refused { OnErr result (self.new ≡ self.old) }
     {
         let mut holding = boxed(alloc, sent)?;
         holding.more = self.more.take();

@@ -1,5 +1,5 @@
 //! What the peers hold of one prefix.
-ghost use Rattle.std.specs.Prelude.{◌≡◌, ◌<◌, ◌==◌, ℕ, [], None, Some, true, false, IfOk, IsTrue, if◌then◌else◌};
+ghost use Rattle.std.specs.Prelude.{◌≡◌, ◌<◌, ◌==◌, ◌||◌, ◌&&◌, ℕ, [], None, Some, not, true, false, IfOk, OnErr, IsTrue, if◌then◌else◌};
 ghost use Rattle.std.specs.Option.{option_copied, option_map};
 ghost use Rattle.std.specs.Result.{is_ok};
 ghost use Rattle.rib_out.specs.Slots.{has_slot};
@@ -34,7 +34,8 @@ impl<A: Allocator> Model for Holdings<A> {
 impl<A: Allocator> Holdings<A> {
     /// No peer holds anything.
     pub fn new() -> Self
-        ensures { (holds_any result ≡ false) × (result.holdings ≡ []) }
+        ensures none { (holds_any result ≡ false) × (result.holdings ≡ []) }
+        ensures asked { result.asked ≡ 0 }
     {
         Holdings {
             kept: Kept::new(),
@@ -74,6 +75,8 @@ impl<A: Allocator> Holdings<A> {
         ensures held { (s : ℕ) → held_by self.new s ≡ held_by self.old s }
         ensures any { holds_any self.new ≡ holds_any self.old }
         ensures kept { IsReady sent.now self.old → (self.new ≡ self.old) × IsTrue (is_ok result) }
+        ensures refused { OnErr result (IsCompact self.new.holdings) }
+        ensures asked { self.new.asked ≡ self.old.asked }
     {
         if self.kept.has_holding(sent) {
             return Ok(());
@@ -91,6 +94,7 @@ impl<A: Allocator> Holdings<A> {
         ensures ready { IsReady sent.now self.new }
         ensures any { holds_any self.new ≡ true }
         ensures compact { IsCompact self.new.holdings }
+        ensures asked { (s : ℕ) → has_slot self.new.asked s ≡ (not (s == slot) && has_slot self.old.asked s) }
     {
         self.asked = slots::without(self.asked, slot);
         self.kept.give(slot, sent);
@@ -101,6 +105,7 @@ impl<A: Allocator> Holdings<A> {
         requires { slot < 64 }
         ensures held { (s : ℕ) → held_by self.new s ≡ (if s == slot then None else held_by self.old s) }
         ensures compact { IsCompact self.new.holdings }
+        ensures asked { self.new.asked ≡ self.old.asked }
     {
         self.kept.clear(slot);
         self.kept.compact();
@@ -112,6 +117,7 @@ impl<A: Allocator> Holdings<A> {
         ensures held { (s : ℕ) → held_by self.new s ≡ (if s == slot then option_map (λ route. record { octets = route.octets; asked = false }) (held_by self.old s) else held_by self.old s) }
         ensures any { holds_any self.new ≡ holds_any self.old }
         ensures stays { self.new.holdings ≡ self.old.holdings }
+        ensures asked { (s : ℕ) → has_slot self.new.asked s ≡ (not (s == slot) && has_slot self.old.asked s) }
     {
         self.asked = slots::without(self.asked, slot);
     }
@@ -122,6 +128,7 @@ impl<A: Allocator> Holdings<A> {
         ensures held { (s : ℕ) → held_by self.new s ≡ (if s == slot then option_map (λ route. record { octets = route.octets; asked = true }) (held_by self.old s) else held_by self.old s) }
         ensures any { holds_any self.new ≡ holds_any self.old }
         ensures stays { self.new.holdings ≡ self.old.holdings }
+        ensures asked { (s : ℕ) → has_slot self.new.asked s ≡ (s == slot || has_slot self.old.asked s) }
     {
         self.asked = slots::with(self.asked, slot);
     }
@@ -131,6 +138,7 @@ impl<A: Allocator> Holdings<A> {
         ensures held { (s : ℕ) → held_by self.new s ≡ held_by self.old s }
         ensures any { holds_any self.new ≡ holds_any self.old }
         ensures compact { IsCompact self.new.holdings }
+        ensures asked { self.new.asked ≡ self.old.asked }
     {
         self.kept.compact();
     }

@@ -1,5 +1,5 @@
 //! How what the peers hold of one prefix is kept.
-ghost use Rattle.std.specs.Prelude.{◌≡◌, ◌↔◌, ◌≤◌, ◌<◌, ◌==◌, [], suc, ℕ, None, OnOk, IsTrue, if◌then◌else◌};
+ghost use Rattle.std.specs.Prelude.{◌≡◌, ◌↔◌, ◌≤◌, ◌<◌, ◌==◌, [], suc, ℕ, None, OnErr, OnOk, IsTrue, if◌then◌else◌};
 ghost use Rattle.std.specs.Option.{option_copied};
 ghost use Rattle.holdings.specs.Bounded.{AreApart, IsCompact, unheld_count};
 ghost use Rattle.holdings.specs.Holdings.{IsListedAmong, octets_among};
@@ -96,6 +96,7 @@ impl<A: Allocator> Kept<A> {
         ensures any { any_held self.new ≡ any_held self.old }
         ensures apart { AreApart self.old → AreApart self.new }
         ensures few { unheld_count self.new ≤ suc (unheld_count self.old) }
+        ensures refused { OnErr result (self.new ≡ self.old) }
     {
         match &mut self.form {
             Form::Nothing => {
