@@ -6,8 +6,8 @@ use Rattle.std.specs.Borrow.{Bor, MutBor}
 use Rattle.std.specs.BTreeMap.{is_at}
 use Rattle.std.specs.List.{cons_option}
 use Rattle.std.specs.List.Sorted.{IsStrictlySortedBy}
-use Rattle.std.specs.Map.{remove_entry, set_value, values_of}
-use Rattle.std.specs.Option.{OnSome, UnwrapsOrElse, option_copied}
+use Rattle.std.specs.Map.{values_of}
+use Rattle.std.specs.Option.{OnSome, option_copied}
 use Rattle.std.specs.Ordering.{is_eq}
 use Rattle.net_prefix.specs.PrefixOrder.{prefix_cmp}
 use Rattle.net_prefix.specs.declared.prefix.Prefix.{Prefix}
@@ -23,11 +23,11 @@ use Rattle.holdings.specs.Bounded.{IsCompact}
 use Rattle.holdings.specs.Holdings.{HoldingsState, held_by, holds_any, octets_by}
 use Rattle.rib_out.specs.Slots.{has_slot}
 use Rattle.prefix_table.specs.Tables.{IsPut}
-use Rattle.prefix_table.proofs.Picked.{found_head, map_picked, none_behind, picked_each, picked_found, picked_map, picked_others, picked_rising, picked_stays, picked_twice, same_found, found_removed, found_set}
-use Rattle.rib_rows.proofs.RowSteps.{none_from, some_there}
+use Rattle.prefix_table.proofs.Picked.{found_head, map_picked, none_behind, picked_each, picked_found, picked_map, picked_others, picked_rising, picked_stays, picked_twice, same_found}
+use Rattle.rib_rows.proofs.RowSteps.{none_from}
 use Rattle.prefix_table.specs.Picked.{picked}
 use Rattle.rib_rows.specs.PrefixRows.{AreRows, IsRow, PrefixRow, RowTable, adj_in_of, best_of, book_of, route_of}
-use Rattle.rib_rows.specs.Records.{AreRecords, AreSound, IsNeeded, IsRecord, IsSound, PrefixRecord, RecordTable, held_of, routed, row_of, sent_in, sent_of}
+use Rattle.rib_rows.specs.Records.{AreRecords, AreSound, IsNeeded, IsRecord, IsSound, PrefixRecord, RecordTable, routed, row_of, sent_in, sent_of}
 
 -- ---- what holds of each value, and of what is found
 
@@ -160,21 +160,6 @@ put_twice {old} {written} {new} {prefix} {was} {now} first second = record {
   puts = λ q. second.puts q ∙ ap (cond (is_eq (prefix_cmp prefix q)) now) (first.puts q) ∙ twice (is_eq (prefix_cmp prefix q)) now was (found old q);
 }
 
--- what is written to a record that is there
-pub written : (old new : RecordTable) (prefix : Prefix) (was now : PrefixRecord) → IsRising old → found old prefix ≡ Some was → new ≡ set_value (is_at (prefix_cmp prefix)) old now → IsRising new → IsPut old new prefix (Some now)
-written old new prefix was now rising had same also = record {
-  was_rising = rising;
-  rising = also;
-  puts = λ q. ap (λ es. found es q) same ∙ found_set old prefix q now (some_there (found old prefix) was had);
-}
-
-pub removed : (old new : RecordTable) (prefix : Prefix) → IsRising old → new ≡ remove_entry (is_at (prefix_cmp prefix)) old → IsRising new → IsPut old new prefix None
-removed old new prefix rising same also = record {
-  was_rising = rising;
-  rising = also;
-  puts = λ q. ap (λ es. found es q) same ∙ found_removed old rising prefix q;
-}
-
 each_put : (P : PrefixRecord → Type 0) (b : Bool) (now old : Option PrefixRecord) → IfSome now P → IfSome old P → IfSome (cond b now old) P
 each_put P true now old is was = is
 each_put P false now old is was = was
@@ -286,6 +271,10 @@ or_needed (Some row) h is none = absurd (cc)
 pub record_needed : (r : PrefixRecord) (b : Bool) → IsSound r → b ≡ (is_some r.row || holds_any r.sent) → b ≡ true → IsCompact r.sent.holdings → IsRecord r
 record_needed r b sound is needed compact = record { row = sound; needed = or_needed r.row (holds_any r.sent) (sym is ∙ needed); compact = compact }
 
+-- as somebody did, where no more is kept than that
+pub needed_kept : (was now : PrefixRecord) → IsNeeded (Some was) → now.row ≡ was.row → holds_any now.sent ≡ holds_any was.sent → IsCompact now.sent.holdings → IsNeeded (Some now)
+needed_kept was now needed same any compact = (λ none. any ∙ needed.0 (sym same ∙ none), compact)
+
 -- nobody does
 pub row_unneeded : (r : PrefixRecord) (b : Bool) → b ≡ (is_some r.row || holds_any r.sent) → b ≡ false → r.row ≡ None
 row_unneeded r b is not_needed = none_from r.row (or_left (is_some r.row) (holds_any r.sent) (sym is ∙ not_needed))
@@ -295,19 +284,3 @@ sent_unneeded r b is not_needed = sent_none r (or_right (is_some r.row) (holds_a
 
 pub held_unneeded : (r : PrefixRecord) (b : Bool) → b ≡ (is_some r.row || holds_any r.sent) → b ≡ false → (s : ℕ) → held_by r.sent s ≡ None
 held_unneeded r b is not_needed s = none_held r.sent (or_right (is_some r.row) (holds_any r.sent) (sym is ∙ not_needed)) s
-
-row_case : (o : Option PrefixRecord) → IfSome o IsSound → IfSome (row_of o) IsRow
-row_case None is = tt
-row_case (Some r) is = is
-
--- a record that is what was there, or a new one where there was none
-pub record Based (o : Option PrefixRecord) (r : PrefixRecord) : Type 0 where
-  pub row : r.row ≡ row_of o
-  pub held : (s : ℕ) → held_by r.sent s ≡ held_of o s
-
-pub based : (o : Option PrefixRecord) (P : PrefixRecord → Type 0) (r : PrefixRecord) → UnwrapsOrElse o P r → (P r → (r.row ≡ None) × (holds_any r.sent ≡ false)) → Based o r
-based None P r is fresh = let new = fresh is in record { row = new.0; held = λ s. none_held r.sent new.1 s }
-based (Some x) P r is fresh = record { row = ap (λ (r : PrefixRecord). r.row) is; held = λ s. ap (λ (r : PrefixRecord). held_by r.sent s) is }
-
-pub sound_based : (o : Option PrefixRecord) (now : PrefixRecord) → IfSome o IsSound → now.row ≡ row_of o → IsSound now
-sound_based o now is same = subst (λ row. IfSome row IsRow) (sym same) (row_case o is)

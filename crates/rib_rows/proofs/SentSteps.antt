@@ -1,7 +1,7 @@
 -- What is known of a record that is lent, and of one that is put in.
 use Rattle.std.proofs.Common.{◌≡◌, ℕ, false, Option, None, Some, Result, Ok, Err, OnOk, OnErr, IfSome, sym, ap, ◌∙◌, subst}
 use Rattle.std.specs.Borrow.{MutBor}
-use Rattle.std.specs.Option.{OnSome, option_copied_mut}
+use Rattle.std.specs.Option.{option_copied_mut}
 use Rattle.net_prefix.specs.declared.prefix.Prefix.{Prefix}
 use Rattle.prefix_table.specs.Tables.{IsPut}
 use Rattle.prefix_trie.specs.TrieMap.{found}
@@ -15,10 +15,6 @@ module _ {X : Type 0} (r : Option (MutBor X)) (b : MutBor X) (is : r ≡ Some b)
   -- it is the one that was found
   pub lent_found : (o : Option X) → option_copied_mut r ≡ o → o ≡ Some b.now
   lent_found o value = sym value ∙ ap option_copied_mut is
-
-  -- what follows for what is written holds
-  pub lent_put : (P : Type 0) → OnSome r P → P
-  lent_put P holds = subst (λ r. OnSome r P) is holds
 
 -- what the slots hold of a prefix, after a step of its record
 pub held_put : (step : ℕ → Option HeldRoute → Option HeldRoute) (old new : RecordTable) (prefix : Prefix) (was now : PrefixRecord) → IsPut old new prefix (Some now) → found old prefix ≡ Some was

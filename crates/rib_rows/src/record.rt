@@ -1,6 +1,7 @@
 //! The record of one prefix.
-ghost use Rattle.std.specs.Prelude.{◌≡◌, ◌≢◌, ◌<◌, ◌≤◌, ◌+◌, ◌-◌, ◌^◌, ◌==◌, ◌||◌, ℕ, None, Some, true, false, All, IfNone, IfOk, IfSome, IsSome, OnErr, OnOk, is_some, min, option_map, if◌then◌else◌};
+ghost use Rattle.std.specs.Prelude.{◌≡◌, ◌≢◌, ◌<◌, ◌≤◌, ◌+◌, ◌-◌, ◌^◌, ◌==◌, ◌||◌, ℕ, None, Some, true, false, All, IfNone, IfOk, IfSome, IsSome, IsTrue, OnErr, OnOk, is_some, min, option_map, if◌then◌else◌};
 ghost use Rattle.std.specs.Option.{option_copied};
+ghost use Rattle.std.specs.Result.{is_ok};
 ghost use Rattle.decision.specs.BookContents.{AreApart, changed};
 ghost use Rattle.holdings.specs.Bounded.{IsCompact};
 ghost use Rattle.holdings.specs.Holdings.{IsReady, held_by, holds_any, octets_by};
@@ -266,6 +267,8 @@ impl<A: Allocator + Clone, B: Book<A>> Record<A, B> {
         ensures ready { OnOk result (IsReady sent.now self.new.sent) }
         ensures held { (s : ℕ) → held_by self.new.sent s ≡ held_by self.old.sent s }
         ensures any { holds_any self.new.sent ≡ holds_any self.old.sent }
+        ensures kept { IsReady sent.now self.old.sent → (self.new ≡ self.old) × IsTrue (is_ok result) }
+        ensures refused { OnErr result (IsCompact self.new.sent.holdings) }
         ensures row { self.new.row ≡ self.old.row }
     {
         self.sent.make_ready(alloc, sent)

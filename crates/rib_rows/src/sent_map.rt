@@ -1,5 +1,6 @@
 //! The records by prefix: what the peers hold.
-ghost use Rattle.std.specs.Prelude.{◌≡◌, ◌<◌, ◌^◌, ◌==◌, ℕ, None, Some, false, IfSome, OnOk, option_map, if◌then◌else◌};
+ghost use Rattle.std.specs.Prelude.{◌≡◌, ◌<◌, ◌^◌, ◌==◌, ℕ, None, Some, false, IfSome, IsTrue, OnErr, OnOk, option_map, if◌then◌else◌};
+ghost use Rattle.std.specs.Result.{is_ok};
 ghost use Rattle.decision.specs.BookContents.{is_prefix};
 ghost use Rattle.net_prefix.specs.declared.prefix.Prefix.{Prefix as ThePrefix};
 ghost use Rattle.prefix_trie.specs.TrieMap.{found};
@@ -118,7 +119,8 @@ pub fn renew_in<A: Allocator + Clone, B: Book<A>>(
     record.renew(slot);
 }
 
-/// Makes a place for these attributes with the prefix, where there is none. Nobody may need the record afterwards.
+/// Makes a place for these attributes with the prefix, where there is none. Nobody may need the record afterwards; where
+/// memory is refused, somebody does if somebody did.
 pub fn ready_in<A: Allocator + Clone, B: Book<A>>(
     rows: &mut RecordMap<A, B>,
     alloc: &A,
@@ -131,6 +133,8 @@ pub fn ready_in<A: Allocator + Clone, B: Book<A>>(
     ensures routed { (p : ThePrefix) → found (routed rows.new.entries) p ≡ found (routed rows.old.entries) p }
     ensures held { (s : ℕ) → held_of (found rows.new.entries prefix) s ≡ held_of (found rows.old.entries prefix) s }
     ensures ready { OnOk result (IsPrepared sent.now (found rows.new.entries prefix)) }
+    ensures kept { IsPrepared sent.now (found rows.old.entries prefix) → (rows.new.entries ≡ rows.old.entries) × IsTrue (is_ok result) }
+    ensures refused { OnErr result (IsNeeded (found rows.old.entries prefix) → IsNeeded (found rows.new.entries prefix)) }
 {
     if let Some(record) = rows.get_mut(prefix) {
         return record.make_ready(alloc, sent);

@@ -1,4 +1,4 @@
-use Rattle.std.proofs.Common.{◌≡◌, ◌==◌, if◌then◌else◌, Option, None, Some, false, option_map, option_and_then, rules, ap, sym, subst, ◌∙◌}
+use Rattle.std.proofs.Common.{◌≡◌, ◌==◌, if◌then◌else◌, Option, None, Some, false, option_map, option_and_then, ap, sym, subst, ◌∙◌}
 use Rattle.std.specs.Option.{option_copied_mut}
 use Rattle.decision.specs.BookContents.{AreApart}
 use Rattle.prefix_table.specs.Tables.{IsPut}

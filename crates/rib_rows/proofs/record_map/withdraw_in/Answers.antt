@@ -28,14 +28,14 @@ pub returns-then-not-is_needed-clause-rows : goal.returns-then-not-is_needed-cla
 returns-then-not-is_needed-clause-rows g c =
     let had : found c.args.rows.now.entries c.args.prefix ≡ Some c.in-Some.record.now = sym c.get_mut.ensures.value ∙ ap option_copied_mut c.in-Some.is in
     let put : IsPut c.args.rows.now.entries c.remove.new.self.entries c.args.prefix None =
-    put_twice (through_lent c.get_mut.result c.in-Some.record _ c.in-Some.is (c.get_mut.follows.holds c.withdraw.new.self)) c.remove.ensures in
+    put_twice (through_lent c.get_mut.result c.in-Some.record _ c.in-Some.is (c.get_mut.follows.holds c.withdraw.new.self)) c.remove.ensures.put in
     records_put put c.requires tt
 
 pub returns-then-not-is_needed-clause-others : goal.returns-then-not-is_needed-clause-others
 returns-then-not-is_needed-clause-others g c =
     let had : found c.args.rows.now.entries c.args.prefix ≡ Some c.in-Some.record.now = sym c.get_mut.ensures.value ∙ ap option_copied_mut c.in-Some.is in
     let put : IsPut c.args.rows.now.entries c.remove.new.self.entries c.args.prefix None =
-    put_twice (through_lent c.get_mut.result c.in-Some.record _ c.in-Some.is (c.get_mut.follows.holds c.withdraw.new.self)) c.remove.ensures in
+    put_twice (through_lent c.get_mut.result c.in-Some.record _ c.in-Some.is (c.get_mut.follows.holds c.withdraw.new.self)) c.remove.ensures.put in
     row_others put
 
 pub returns-then-not-is_needed-clause-routes : goal.returns-then-not-is_needed-clause-routes
@@ -43,7 +43,7 @@ returns-then-not-is_needed-clause-routes g c =
     let had : found c.args.rows.now.entries c.args.prefix ≡ Some c.in-Some.record.now = sym c.get_mut.ensures.value ∙ ap option_copied_mut c.in-Some.is in
     let there : found (routed c.args.rows.now.entries) c.args.prefix ≡ c.in-Some.record.now.row = row_there c.args.rows.now.entries c.args.prefix c.in-Some.record.now c.requires.0 had in
     let put : IsPut c.args.rows.now.entries c.remove.new.self.entries c.args.prefix None =
-    put_twice (through_lent c.get_mut.result c.in-Some.record _ c.in-Some.is (c.get_mut.follows.holds c.withdraw.new.self)) c.remove.ensures in
+    put_twice (through_lent c.get_mut.result c.in-Some.record _ c.in-Some.is (c.get_mut.follows.holds c.withdraw.new.self)) c.remove.ensures.put in
     let now : found (routed c.remove.new.self.entries) c.args.prefix ≡ c.withdraw.new.self.row =
     row_found put ∙ sym (row_unneeded c.withdraw.new.self c.is_needed.result c.is_needed.ensures c.if-not-is_needed.true) in
     (λ s. ap (λ o. route_of o s) now ∙ c.withdraw.ensures.routes s ∙ ap (λ o. if c.args.slot == s then None else route_of o s) (sym there))
@@ -53,7 +53,7 @@ returns-then-not-is_needed-clause-offers g c =
     let had : found c.args.rows.now.entries c.args.prefix ≡ Some c.in-Some.record.now = sym c.get_mut.ensures.value ∙ ap option_copied_mut c.in-Some.is in
     let there : found (routed c.args.rows.now.entries) c.args.prefix ≡ c.in-Some.record.now.row = row_there c.args.rows.now.entries c.args.prefix c.in-Some.record.now c.requires.0 had in
     let put : IsPut c.args.rows.now.entries c.remove.new.self.entries c.args.prefix None =
-    put_twice (through_lent c.get_mut.result c.in-Some.record _ c.in-Some.is (c.get_mut.follows.holds c.withdraw.new.self)) c.remove.ensures in
+    put_twice (through_lent c.get_mut.result c.in-Some.record _ c.in-Some.is (c.get_mut.follows.holds c.withdraw.new.self)) c.remove.ensures.put in
     let now : found (routed c.remove.new.self.entries) c.args.prefix ≡ c.withdraw.new.self.row =
     row_found put ∙ sym (row_unneeded c.withdraw.new.self c.is_needed.result c.is_needed.ensures c.if-not-is_needed.true) in
     (λ s. ap (λ o. offer_of o s) now ∙ c.withdraw.ensures.offers s ∙ ap (λ o. if c.args.slot == s then None else offer_of o s) (sym there))
@@ -63,7 +63,7 @@ returns-then-not-is_needed-clause-another g c =
     let had : found c.args.rows.now.entries c.args.prefix ≡ Some c.in-Some.record.now = sym c.get_mut.ensures.value ∙ ap option_copied_mut c.in-Some.is in
     let there : found (routed c.args.rows.now.entries) c.args.prefix ≡ c.in-Some.record.now.row = row_there c.args.rows.now.entries c.args.prefix c.in-Some.record.now c.requires.0 had in
     let put : IsPut c.args.rows.now.entries c.remove.new.self.entries c.args.prefix None =
-    put_twice (through_lent c.get_mut.result c.in-Some.record _ c.in-Some.is (c.get_mut.follows.holds c.withdraw.new.self)) c.remove.ensures in
+    put_twice (through_lent c.get_mut.result c.in-Some.record _ c.in-Some.is (c.get_mut.follows.holds c.withdraw.new.self)) c.remove.ensures.put in
     let now : found (routed c.remove.new.self.entries) c.args.prefix ≡ c.withdraw.new.self.row =
     row_found put ∙ sym (row_unneeded c.withdraw.new.self c.is_needed.result c.is_needed.ensures c.if-not-is_needed.true) in
     (λ another. c.withdraw.ensures.another (λ same. another (ap best_of now ∙ same ∙ ap best_of (sym there))))
@@ -84,7 +84,7 @@ pub returns-then-not-is_needed-clause-sent : goal.returns-then-not-is_needed-cla
 returns-then-not-is_needed-clause-sent g c =
     let had : found c.args.rows.now.entries c.args.prefix ≡ Some c.in-Some.record.now = sym c.get_mut.ensures.value ∙ ap option_copied_mut c.in-Some.is in
     let put : IsPut c.args.rows.now.entries c.remove.new.self.entries c.args.prefix None =
-    put_twice (through_lent c.get_mut.result c.in-Some.record _ c.in-Some.is (c.get_mut.follows.holds c.withdraw.new.self)) c.remove.ensures in
+    put_twice (through_lent c.get_mut.result c.in-Some.record _ c.in-Some.is (c.get_mut.follows.holds c.withdraw.new.self)) c.remove.ensures.put in
     same_sent put (sym (sent_unneeded c.withdraw.new.self c.is_needed.result c.is_needed.ensures c.if-not-is_needed.true) ∙ sent_same c.in-Some.record.now c.withdraw.new.self c.withdraw.ensures.sent ∙ ap (option_and_then sent_in) (sym had))
 
 pub returns-else-not-is_needed-clause-rows : goal.returns-else-not-is_needed-clause-rows
