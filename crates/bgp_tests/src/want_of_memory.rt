@@ -1,4 +1,5 @@
-//! UPDATEs where memory is refused: it is wanted for an AS_PATH and for unknown attributes that are kept.
+//! UPDATEs where memory is refused: it is wanted for an AS_PATH, and for unknown attributes that are kept where they are several
+//! or longer than 28 octets.
 ghost use Rattle.std.specs.Prelude.{◌≤◌};
 
 use bgp_attr::{PeerKind, UpdateFault};
@@ -9,8 +10,15 @@ use std::alloc::Global;
 
 const PEER: PeerKind = PeerKind::External(Asn(65001));
 
-// An unknown attribute that is kept.
-const WITH_UNKNOWN: [u8; 8] = [0, 0, 0, 4, 0xC0, 99, 1, 7];
+// Two unknown attributes that are kept.
+const WITH_TWO_UNKNOWN: [u8; 12] = [0, 0, 0, 8, 0xC0, 98, 1, 7, 0xC0, 99, 1, 7];
+
+// One of 29 octets.
+#[rattlefmt::skip]
+const WITH_LONG_UNKNOWN: [u8; 36] = [
+    0, 0, 0, 32,
+    0xC0, 99, 29, 1, 2, 3, 4, 5, 6, 7, 8, 9, 10, 11, 12, 13, 14, 15, 16, 17, 18, 19, 20, 21, 22, 23, 24, 25, 26, 27, 28, 29,
+];
 
 // It announces 10.0.1.0/24: ORIGIN IGP, AS_PATH 65001 {65005, 65006}, NEXT_HOP 192.0.2.11.
 #[rattlefmt::skip]
@@ -32,12 +40,14 @@ const WITHOUT_NEXT_HOP: [u8; 31] = [
 ];
 
 // Bodies, and the number that their requests exceed, or none where nothing of them takes memory: a withdrawal, End-of-RIB,
-// ORIGIN and NEXT_HOP with no prefix, AGGREGATOR, and unknown attributes that are dropped.
+// ORIGIN and NEXT_HOP with no prefix, AGGREGATOR, a short unknown attribute, and those that are dropped.
 #[rattlefmt::skip]
-const REQUESTING: [(&[u8], Option<u64>); 8] = [
-    (&ANNOUNCEMENT,                                                       Some(3)),
-    (&WITHOUT_NEXT_HOP,                                                   Some(3)),
-    (&WITH_UNKNOWN,                                                       Some(1)),
+const REQUESTING: [(&[u8], Option<u64>); 10] = [
+    (&ANNOUNCEMENT,                                                       Some(2)),
+    (&WITHOUT_NEXT_HOP,                                                   Some(2)),
+    (&WITH_TWO_UNKNOWN,                                                   Some(1)),
+    (&WITH_LONG_UNKNOWN,                                                  Some(1)),
+    (&[0, 0, 0, 4, 0xC0, 99, 1, 7],                                       None),
     (&[0, 4, 0x18, 10, 0, 1, 0, 0],                                       None),
     (&[0, 0, 0, 0],                                                       None),
     (&[0, 0, 0, 11, 0x40, 1, 1, 0, 0x40, 3, 4, 0xC0, 0, 2, 0x0B],         None),
