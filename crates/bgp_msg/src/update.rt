@@ -1,12 +1,13 @@
 //! The UPDATE message (RFC 4271 section 4.3).
-ghost use Rattle.std.specs.Prelude.{◌≡◌, ◌<◌, ◌+◌, ◌^◌, ◌↔◌, ℕ, List, All, IfOk, IfErr, IsSome, IfSome, Some, None, length, []};
+ghost use Rattle.std.specs.Prelude.{◌≡◌, ◌<◌, ◌+◌, ◌^◌, ◌↔◌, ℕ, List, All, ◌∷◌, IfOk, IfErr, IsSome, IfNone, IfSome, Some, None, length, []};
 ghost use Rattle.net_prefix.specs.declared.prefix.Prefix.{Prefix};
 ghost use Rattle.std.specs.Option.{option_map};
 ghost use Rattle.bgp_msg.specs.MessageSpelling.{counted_at, update_parts, prefix_at, front_prefixes, are_prefixes_in, prefixes_in, ArePrefixes, wire_form};
-ghost use Rattle.bgp_msg.specs.UpdateMeaning.{CanBeWritten, IsUpdate, UpdateBody, written_body, parts_fault, said_by, fault_before_memory, update_fault, update_in};
+ghost use Rattle.bgp_msg.specs.UpdateMeaning.{CanBeWritten, IsUpdate, UpdateBody, first_of, missing_fault, prefixes_fault, written_body, parts_fault, said_by, fault_before_memory, update_fault, update_in};
 ghost use Rattle.bgp_attr.specs.AttributeFaults.{attributes_fault, seen};
 ghost use Rattle.bgp_attr.specs.ReceivedAttributes.{AreOctets};
 ghost use Rattle.bgp_attr.specs.AttributeReading.{NeedMemory, attributes_in};
+ghost use Rattle.bgp_attr.specs.PathAttributes.{missing_of};
 ghost use Rattle.bgp_attr.specs.declared.peer.PeerKind.{PeerKind};
 ghost use Rattle.std.specs.Iterator.{YieldsFirst, item_count};
 
@@ -129,19 +130,35 @@ fn read_parts<'a, A: Allocator + Clone>(
         return Err(UpdateFault::InvalidNetworkField);
     }
     let attrs = read_attrs(alloc, attributes, kind)?;
+    match announced_fault(&attrs, announced, kind) {
+        Some(fault) => Err(fault),
+        None => Ok(Update {
+            withdrawn,
+            announced,
+            attrs,
+        }),
+    }
+}
+
+// What is at fault behind the attributes: one that is missing where prefixes are announced, or these prefixes.
+fn announced_fault<'a, A: Allocator>(
+    attrs: &Attrs<A>,
+    announced: &[u8],
+    kind: PeerKind,
+) -> Option<UpdateFault<'a>>
+    ensures none { IfNone result (first_of (missing_fault announced.now (missing_of kind attrs.now) ∷ prefixes_fault announced.now ∷ []) ≡ None) }
+    ensures fault { IfSome result (λ fault. seen fault ≡ first_of (missing_fault announced.now (missing_of kind attrs.now) ∷ prefixes_fault announced.now ∷ [])) }
+    ensures seen { IfSome result (λ fault. IsSome (seen fault)) }
+{
     if !announced.is_empty() {
         if let Some(missing) = attrs.missing(kind) {
-            return Err(UpdateFault::MissingWellKnown(missing));
+            return Some(UpdateFault::MissingWellKnown(missing));
         }
     }
     if !are_prefixes(announced) {
-        return Err(UpdateFault::InvalidNetworkField);
+        return Some(UpdateFault::InvalidNetworkField);
     }
-    Ok(Update {
-        withdrawn,
-        announced,
-        attrs,
-    })
+    None
 }
 
 /// The UPDATE that a body spells is the one that is read, and a body without a fault spells one.
