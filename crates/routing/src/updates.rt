@@ -81,6 +81,7 @@ pub fn take_update<A: Allocator + Clone, B: Book<A>>(
     let announced = update.announced();
     let mut first = announced;
     if first.next().is_none() {
+        drop(update);
         withdraw_each(conf, links, routing, sender.slot, withdrawn, announced);
         return Ok(());
     }
