@@ -3,5 +3,5 @@ pub mod HeldRows
 pub mod HeldTables
 pub mod PrefixRows
 pub mod Prefixes
-pub mod WaitingLists
 pub mod SlotBits
+pub mod NothingWaits

@@ -17,6 +17,8 @@
 
 mod alike;
 mod marks;
+mod queues;
+mod slot_list;
 pub mod slots;
 mod waiting;
 

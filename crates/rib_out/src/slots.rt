@@ -2,6 +2,9 @@
 ghost use Rattle.std.specs.Prelude.{◌≡◌, ◌<◌, ◌^◌, ℕ, ◌==◌, ◌||◌, ◌&&◌, not};
 ghost use Rattle.rib_out.specs.Slots.{has_slot};
 
+/// How many slots there are.
+pub(crate) const SLOTS: usize = 64;
+
 /// The set of one slot.
 pub(crate) fn only(slot: u8) -> u64
     requires { slot < 64 }

@@ -70,7 +70,11 @@ fn count_lost<A: Allocator + Clone>(rt: &impl Abort, alike: &mut AlikePrefixes<A
 }
 
 // Lists a run of prefixes for two slots in turn. Answers how many lists were lost: one at most.
-fn lost_in<A: Allocator + Clone>(rt: &impl Abort, mut alike: AlikePrefixes<A>) -> u32 {
+fn lost_in<A: Allocator + Clone>(rt: &impl Abort, alloc: A) -> u32 {
+    let Ok(mut alike) = AlikePrefixes::new(alloc) else {
+        // The room for the lists is the first that is asked for.
+        return 1;
+    };
     for number in 1..33u32 {
         let prefix = prefix_of(rt, number * 256, 24);
         alike.list(0, &FIRST, prefix);
@@ -83,5 +87,5 @@ fn lost_in<A: Allocator + Clone>(rt: &impl Abort, mut alike: AlikePrefixes<A>) -
 
 #[test]
 fn a_refused_growth_loses_one_list(rt: HostRuntime) {
-    assert!(rt; is_filled_at_last(rt.alloc(), |heap| lost_in(&rt, AlikePrefixes::new(heap))));
+    assert!(rt; is_filled_at_last(rt.alloc(), |heap| lost_in(&rt, heap)));
 }

@@ -74,7 +74,8 @@ fn count_lost<A: Allocator + Clone>(rt: &impl Abort, waiting: &mut Waiting<A>) -
 // Marks a run of prefixes for two slots in turn. Answers how many queues were lost.
 fn lost_in<A: Allocator + Clone>(rt: &impl Abort, alloc: A) -> u32 {
     let Ok(mut waiting) = Waiting::new(alloc) else {
-        panic!(rt; "an allocator that can't be cloned");
+        // The room for the queues is the first that is asked for.
+        return 1;
     };
     for number in 0..32u32 {
         let prefix = prefix_of(rt, number * 256, 24);

@@ -73,7 +73,7 @@ impl<A: Allocator + Clone, B: Book<A>> Routing<A, B> {
         ensures whole { IfOk result (λ t. (s : ℕ) → s < 64 → has_slot t.alike.whole s ≡ true) }
     {
         let waiting = Waiting::new(alloc.clone()?)?;
-        let alike = AlikePrefixes::new(alloc.clone()?);
+        let alike = AlikePrefixes::new(alloc.clone()?)?;
         let ribs = Ribs::new(alloc)?;
         Ok(Routing {
             ribs,
