@@ -17,7 +17,7 @@ use std::ops::Bound;
 /// The places of values by prefix.
 #[derive(Drop)]
 pub(crate) struct Places<A: Allocator> {
-    tree: BTreeMap<Prefix, usize, A>,
+    tree: BTreeMap<Prefix, u32, A>,
     recent: RecentPlaces,
 }
 
@@ -43,7 +43,7 @@ impl<A: Allocator + Clone> Places<A> {
     }
 
     /// The place of the prefix.
-    pub(crate) fn find(&self, prefix: Prefix) -> Option<usize>
+    pub(crate) fn find(&self, prefix: Prefix) -> Option<u32>
         ensures { result ≡ found self.now.entries prefix }
     {
         match self.recent.find(prefix) {
@@ -53,7 +53,7 @@ impl<A: Allocator + Clone> Places<A> {
     }
 
     /// The place of the prefix, which is remembered.
-    pub(crate) fn find_here(&mut self, prefix: Prefix) -> Option<usize>
+    pub(crate) fn find_here(&mut self, prefix: Prefix) -> Option<u32>
         ensures place { result ≡ found self.old.entries prefix }
         ensures same { self.new.entries ≡ self.old.entries }
         ensures kept { IfSome result (λ place. remembered self.new.recent prefix ≡ Some place) }
@@ -67,7 +67,7 @@ impl<A: Allocator + Clone> Places<A> {
     }
 
     /// The prefix has this place from now on.
-    pub(crate) fn insert(&mut self, prefix: Prefix, place: usize) -> Result<(), AllocError>
+    pub(crate) fn insert(&mut self, prefix: Prefix, place: u32) -> Result<(), AllocError>
         ensures rising { OnOk result (IsRising self.new.entries) }
         ensures puts { OnOk result ((q : ThePrefix) → found self.new.entries q ≡ (if is_eq (prefix_cmp prefix q) then Some place else found self.old.entries q)) }
         ensures kept { OnOk result (remembered self.new.recent prefix ≡ Some place) }
@@ -84,7 +84,7 @@ impl<A: Allocator + Clone> Places<A> {
     }
 
     /// The prefix has no place any more. Answers the one that it had.
-    pub(crate) fn remove(&mut self, prefix: Prefix) -> Option<usize>
+    pub(crate) fn remove(&mut self, prefix: Prefix) -> Option<u32>
         ensures place { result ≡ found self.old.entries prefix }
         ensures rising { IsRising self.new.entries }
         ensures puts { (q : ThePrefix) → found self.new.entries q ≡ (if is_eq (prefix_cmp prefix q) then None else found self.old.entries q) }
@@ -95,7 +95,7 @@ impl<A: Allocator + Clone> Places<A> {
     }
 
     /// The places of the prefixes above the given one, or of all.
-    pub(crate) fn after(&self, after: Option<Prefix>) -> btree_map::Range<'_, Prefix, usize>
+    pub(crate) fn after(&self, after: Option<Prefix>) -> btree_map::Range<'_, Prefix, u32>
         ensures { result ≡ all_after after self.now.entries }
     {
         match after {

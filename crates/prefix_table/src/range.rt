@@ -10,7 +10,7 @@ use std::marker::Model;
 /// The values of a stretch of prefixes, in the order of prefixes.
 #[derive(Drop)]
 pub struct Range<'a, V, A: Allocator> {
-    pub(crate) places: btree_map::Range<'a, Prefix, usize>,
+    pub(crate) places: btree_map::Range<'a, Prefix, u32>,
     pub(crate) values: &'a Slab<V, A>,
 }
 
@@ -34,7 +34,7 @@ impl<'a, V, A: Allocator> Iterator for Range<'a, V, A> {
 
     fn next(&mut self) -> Option<(Prefix, &'a V)> {
         while let Some((prefix, place)) = self.places.next() {
-            if let Some(value) = self.values.get(*place) {
+            if let Some(value) = self.values.get(*place as usize) {
                 return Some((*prefix, value));
             }
         }

@@ -11,7 +11,7 @@ const SPOTS: usize = 1024;
 #[derive(Clone, Copy)]
 struct RecentPlace {
     prefix: Prefix,
-    place: usize,
+    place: u32,
 }
 
 /// The places of the prefixes that were looked up lately. Each prefix has one spot, where the last one stays.
@@ -31,7 +31,7 @@ impl RecentPlaces {
     }
 
     /// The place of the prefix, if it is remembered.
-    pub(crate) fn find(&self, prefix: Prefix) -> Option<usize>
+    pub(crate) fn find(&self, prefix: Prefix) -> Option<u32>
         ensures { result ≡ remembered self.now prefix }
     {
         if let Some(recent) = &self.spots[spot(prefix)]
@@ -43,7 +43,7 @@ impl RecentPlaces {
     }
 
     /// The place of the prefix is remembered. Another prefix may be forgotten for it.
-    pub(crate) fn keep(&mut self, prefix: Prefix, place: usize)
+    pub(crate) fn keep(&mut self, prefix: Prefix, place: u32)
         ensures kept { remembered self.new prefix ≡ Some place }
         ensures spots { IsSpotSet self.old self.new prefix (Some (record { prefix = prefix; place = place })) }
     {

@@ -1,9 +1,10 @@
 //! A table of values by prefix.
-ghost use Rattle.std.specs.Prelude.{◌≡◌, [], None, Some, IfOk, OnErr, OnOk};
+ghost use Rattle.std.specs.Prelude.{◌≡◌, [], None, ◌≤◌, ◌^◌, Some, IfErr, IfOk, OnErr, OnOk};
 ghost use Rattle.std.specs.Borrow.{sem};
 ghost use Rattle.std.specs.Option.{option_copied, option_copied_mut};
 ghost use Rattle.prefix_trie.specs.TrieMap.{IsRising, found};
 ghost use Rattle.prefix_trie.specs.TrieWalks.{all_after};
+ghost use Rattle.slab.specs.Slab.{get};
 ghost use Rattle.prefix_table.specs.Lending.{lends_value};
 ghost use Rattle.prefix_table.specs.Tables.{IsPut};
 
@@ -57,7 +58,7 @@ impl<V: Drop, A: Allocator + Clone> PrefixTable<V, A> {
         ensures value { option_copied result ≡ found self.now.entries prefix }
     {
         match self.places.find(prefix) {
-            Some(place) => self.values.get(place),
+            Some(place) => self.values.get(place as usize),
             None => None,
         }
     }
@@ -68,19 +69,20 @@ impl<V: Drop, A: Allocator + Clone> PrefixTable<V, A> {
         ensures value { option_copied_mut result ≡ found self.old.entries prefix }
     {
         match self.places.find_here(prefix) {
-            Some(place) => self.values.get_mut(place),
+            Some(place) => self.values.get_mut(place as usize),
             None => None,
         }
     }
 
-    /// The prefix, which has no value, has this one from now on. Where memory is refused, all stays.
+    /// The prefix, which has no value, has this one from now on. Where memory is refused, or the table has 2^32 values,
+    /// all stays.
     pub fn insert(&mut self, prefix: Prefix, value: V) -> Result<(), AllocError>
         requires { found self.old.entries prefix ≡ None }
         ensures put { OnOk result (IsPut self.old.entries self.new.entries prefix (Some value)) }
         ensures err { OnErr result (self.new.entries ≡ self.old.entries) }
     {
         self.values.reserve(1)?;
-        let place = self.values.vacant_key();
+        let place = vacant_place(&self.values)?;
         self.places.insert(prefix, place)?;
         self.values.insert_reserved(value);
         Ok(())
@@ -92,7 +94,7 @@ impl<V: Drop, A: Allocator + Clone> PrefixTable<V, A> {
         ensures put { IsPut self.old.entries self.new.entries prefix None }
     {
         match self.places.remove(prefix) {
-            Some(place) => Some(self.values.remove(place)),
+            Some(place) => Some(self.values.remove(place as usize)),
             None => None,
         }
     }
@@ -105,5 +107,17 @@ impl<V: Drop, A: Allocator + Clone> PrefixTable<V, A> {
             places: self.places.after(after),
             values: &self.values,
         }
+    }
+}
+
+// The place of the next value.
+fn vacant_place<V, A: Allocator>(values: &Slab<V, A>) -> Result<u32, AllocError>
+    ensures place { IfOk result (λ place. place ≡ values.now.vacant_key) }
+    ensures vacant { IfOk result (λ place. get values.now place ≡ None) }
+    ensures full { IfErr result (λ _. 2 ^ 32 ≤ values.now.vacant_key) }
+{
+    match u32::try_from(values.vacant_key()) {
+        Ok(place) => Ok(place),
+        Err(_) => Err(AllocError),
     }
 }
