@@ -14,9 +14,11 @@ mod meter;
 mod places;
 mod plain_book;
 mod selection;
+mod without_med;
 
 pub use book::{Book, Change};
 pub use candidate::{Candidate, LOCAL_SLOT, MAX_CANDIDATES};
 pub use meter::Meter;
 pub use plain_book::PlainBook;
 pub use selection::{choose, one_best};
+pub use without_med::WithoutMed;

@@ -7,7 +7,7 @@ ghost use Rattle.live_book.specs.KeptAlone.{kept_in, one_place};
 use crate::comparing::{after, count_choice};
 use crate::many_places::ManyPlaces;
 use crate::places::is_same;
-use decision::{Book, Candidate, Change, Meter};
+use decision::{Book, Candidate, Change, Meter, WithoutMed};
 use std::alloc::{AllocError, Allocator, Global};
 use std::marker::Model;
 
@@ -26,8 +26,10 @@ enum Places<A: Allocator> {
     Nobody,
     // This slot alone, without a candidate.
     Vacant(u8),
-    // The slot of this candidate alone.
-    Alone(Candidate),
+    // The slot of this candidate alone, which has no MULTI_EXIT_DISC. In one value both would take 8 octets more.
+    Alone(WithoutMed),
+    // The same with this MULTI_EXIT_DISC.
+    AloneWithMed(u32, WithoutMed),
     // Others too, or others did.
     Many(ManyPlaces<A>),
 }
@@ -47,9 +49,13 @@ impl<A: Allocator> Places<A> {
         requires { IfSome candidate (λ c. c.slot ≡ slot) }
         ensures { kept_in result ≡ one_place slot candidate }
     {
-        match candidate {
-            Some(candidate) => Places::Alone(candidate),
-            None => Places::Vacant(slot),
+        let Some(candidate) = candidate else {
+            return Places::Vacant(slot);
+        };
+        let rest = WithoutMed::of(candidate);
+        match candidate.med {
+            Some(med) => Places::AloneWithMed(med, rest),
+            None => Places::Alone(rest),
         }
     }
 
@@ -143,8 +149,13 @@ impl<A: Allocator + Clone> Book<A> for LiveBook<A> {
     fn add(&mut self, slot: u8) -> Result<(), AllocError> {
         match &mut self.places {
             Places::Many(many) => many.add(slot),
-            Places::Alone(candidate) => {
-                let candidate = *candidate;
+            Places::Alone(rest) => {
+                let candidate = rest.with(None);
+                self.places
+                    .add_second(&self.alloc, candidate.slot, Some(candidate), slot)
+            }
+            Places::AloneWithMed(med, rest) => {
+                let candidate = rest.with(Some(*med));
                 self.places
                     .add_second(&self.alloc, candidate.slot, Some(candidate), slot)
             }
@@ -162,8 +173,13 @@ impl<A: Allocator + Clone> Book<A> for LiveBook<A> {
     fn change(&mut self, meter: &mut Meter, changes: &[Change]) {
         match &mut self.places {
             Places::Many(many) => many.change(meter, changes),
-            Places::Alone(candidate) => {
-                let candidate = *candidate;
+            Places::Alone(rest) => {
+                let candidate = rest.with(None);
+                self.places
+                    .change_one(meter, changes, candidate.slot, Some(candidate));
+            }
+            Places::AloneWithMed(med, rest) => {
+                let candidate = rest.with(Some(*med));
                 self.places
                     .change_one(meter, changes, candidate.slot, Some(candidate));
             }
@@ -178,8 +194,13 @@ impl<A: Allocator + Clone> Book<A> for LiveBook<A> {
     fn leave(&mut self, meter: &mut Meter, slot: u8) -> bool {
         match &mut self.places {
             Places::Many(many) => many.leave(meter, slot),
-            Places::Alone(candidate) => {
-                let candidate = *candidate;
+            Places::Alone(rest) => {
+                let candidate = rest.with(None);
+                self.places
+                    .leave_one(meter, candidate.slot, Some(candidate), slot)
+            }
+            Places::AloneWithMed(med, rest) => {
+                let candidate = rest.with(Some(*med));
                 self.places
                     .leave_one(meter, candidate.slot, Some(candidate), slot)
             }
@@ -194,7 +215,8 @@ impl<A: Allocator + Clone> Book<A> for LiveBook<A> {
     fn best(&self) -> Option<Candidate> {
         match &self.places {
             Places::Many(many) => many.best(),
-            Places::Alone(candidate) => Some(*candidate),
+            Places::Alone(rest) => Some(rest.with(None)),
+            Places::AloneWithMed(med, rest) => Some(rest.with(Some(*med))),
             Places::Vacant(_) | Places::Nobody => None,
         }
     }
