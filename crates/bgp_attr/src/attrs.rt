@@ -59,7 +59,7 @@ impl Origin {
 pub struct Attrs<A: Allocator = Global> {
     // The widest first, and so none stands behind a gap: each route has a block of these.
     pub(crate) as_path: Option<AsPath<A>>,
-    pub(crate) unknown: Option<UnknownAttributes<A>>,
+    pub(crate) unknown: UnknownAttributes<A>,
     pub(crate) next_hop: Option<u32>,
     pub(crate) multi_exit_disc: Option<u32>,
     pub(crate) local_pref: Option<u32>,
@@ -73,11 +73,10 @@ impl<A: Allocator> Model for Attrs<A> {
     ghost use Rattle.std.specs.Prelude.{◌≡◌, MatchOption, ⊤, true};
     ghost use Rattle.bgp_attr.specs.AttributeFaults.{is_host};
     ghost use Rattle.bgp_attr.specs.PathAttributes.{PathAttributes, aggregator_of};
-    ghost use Rattle.bgp_attr.specs.UnknownAttributes.{unknown_or_none};
 
     ghost Value = { PathAttributes };
 
-    ghost view = { λ a. record { origin = a.origin; as_path = a.as_path; next_hop = a.next_hop; multi_exit_disc = a.multi_exit_disc; local_pref = a.local_pref; atomic_aggregate = a.atomic_aggregate; aggregator = aggregator_of a.aggregator a.is_aggregator_partial; unknown = unknown_or_none a.unknown } };
+    ghost view = { λ a. record { origin = a.origin; as_path = a.as_path; next_hop = a.next_hop; multi_exit_disc = a.multi_exit_disc; local_pref = a.local_pref; atomic_aggregate = a.atomic_aggregate; aggregator = aggregator_of a.aggregator a.is_aggregator_partial; unknown = a.unknown } };
 
     ghost invariant = { λ a. MatchOption a.next_hop ⊤ (λ address. is_host address ≡ true) };
 }
@@ -97,7 +96,7 @@ impl<A: Allocator> Attrs<A> {
             atomic_aggregate: false,
             aggregator: None,
             is_aggregator_partial: false,
-            unknown: None,
+            unknown: UnknownAttributes::new(),
         }
     }
 
@@ -160,10 +159,7 @@ impl<A: Allocator> Attrs<A> {
         // Whatever came, each is one that may go on.
         ensures travelling { MayAllTravel self.now.unknown }
     {
-        match &self.unknown {
-            Some(unknown) => Some(unknown.as_lawful()),
-            None => None,
-        }
+        self.unknown.some()
     }
 
     /// What holds of all attributes that were taken.
@@ -220,7 +216,7 @@ impl<A: Allocator> Attrs<A> {
             local_pref: self.local_pref,
             atomic_aggregate: self.atomic_aggregate,
             aggregator: self.aggregator(),
-            unknown: self.unknown.as_ref(),
+            unknown: self.unknown.some(),
         }
     }
 }

@@ -9,7 +9,7 @@ ghost use Rattle.bgp_attr.specs.AttributeReading as reading;
 ghost use Rattle.bgp_attr.specs.AttributeTable.{length_of};
 ghost use Rattle.bgp_attr.specs.PathReading.{path_at};
 ghost use Rattle.bgp_attr.specs.ReceivedAttributes.{is_partial, split_of};
-ghost use Rattle.bgp_attr.specs.UnknownAttributes.{is_kept, unknown_in, unknown_or_none};
+ghost use Rattle.bgp_attr.specs.UnknownAttributes.{is_kept, unknown_in};
 ghost use Rattle.bgp_attr.specs.declared.attribute_type.AttributeType.TheVariants as type;
 
 use crate::aggregator::{Aggregator, split_aggregator};
@@ -177,11 +177,11 @@ fn with_numbers<A: Allocator>(
     octets: &[u8],
     kind: PeerKind,
     as_path: Option<AsPath<A>>,
-    unknown: Option<UnknownAttributes<A>>,
+    unknown: UnknownAttributes<A>,
 ) -> Attrs<A>
     requires faultless { attributes_fault kind octets.now ≡ None }
     requires path { as_path ≡ option_and_then path_at (value_taken kind type.AsPath (split_of octets.now).0) }
-    requires unknown { unknown_or_none unknown ≡ unknown_in (split_of octets.now).0 }
+    requires unknown { unknown ≡ unknown_in (split_of octets.now).0 }
     ensures { result ≡ attributes_in kind octets.now }
 {
     let (aggregator, is_aggregator_partial) = split_aggregator(aggregator_of(octets, kind));
@@ -270,18 +270,18 @@ fn aggregator_in(is_partial: bool, value: &[u8]) -> Option<Aggregator>
     })
 }
 
-// The unknown attributes that are passed on, where there are any.
+// The unknown attributes that are passed on.
 fn unknown_of<A: Allocator + Clone>(
     alloc: &A,
     octets: &[u8],
-) -> Result<Option<UnknownAttributes<A>>, AllocError>
-    ensures found { IfOk result (λ unknown. unknown_or_none unknown ≡ unknown_in (split_of octets.now).0) }
+) -> Result<UnknownAttributes<A>, AllocError>
+    ensures found { IfOk result (λ unknown. unknown ≡ unknown_in (split_of octets.now).0) }
     ensures memory { OnErr result (0 < length (unknown_in (split_of octets.now).0)) }
 {
     if has_kept(octets) {
-        Ok(Some(read_unknown(alloc, octets)?))
+        read_unknown(alloc, octets)
     } else {
-        Ok(None)
+        Ok(UnknownAttributes::new())
     }
 }
 
@@ -304,11 +304,11 @@ fn read_unknown<A: Allocator + Clone>(
 ) -> Result<UnknownAttributes<A>, AllocError>
     ensures { IfOk result (λ unknown. unknown ≡ unknown_in (split_of octets.now).0) }
 {
-    let mut unknown = UnknownAttributes::new(alloc.clone()?);
+    let mut unknown = UnknownAttributes::new();
     let mut rest = octets;
     while let Some((attribute, behind)) = split_attribute(rest) {
         if attribute.is_kept() {
-            unknown.keep(attribute.code, attribute.value)?;
+            unknown.keep(alloc, attribute.code, attribute.value)?;
         }
         rest = behind;
     }

@@ -6,9 +6,10 @@ ghost use Rattle.std.specs.Iterator.{YieldsFirstBy, item_count};
 ghost use Rattle.std.specs.Ordering.{nat_cmp};
 ghost use Rattle.bgp_attr.specs.AttributeTable.{is_passed_on};
 ghost use Rattle.bgp_attr.specs.KeptUnknown.{list_kept};
-ghost use Rattle.bgp_attr.specs.UnknownAttributes.{ArePassedOn, has_code, place_of};
+ghost use Rattle.bgp_attr.specs.UnknownAttributes.{ArePassedOn, has_code, place_of, unknown_or_none};
+ghost use Rattle.std.specs.Option.{option_copied};
 
-use crate::unknown_attribute::Unknown;
+use crate::unknown_attribute::{SHORT_VALUE, ShortAttribute, Unknown};
 use std::alloc::{AllocError, Allocator, Global};
 use std::cmp::Ordering;
 use std::marker::Model;
@@ -17,15 +18,14 @@ use std::mem;
 /// The unknown attributes of a route that are passed on, in rising order of their codes. There are few, mostly one.
 #[derive(Drop)]
 pub struct UnknownAttributes<A: Allocator = Global> {
-    alloc: A,
     pub(crate) attributes: UnknownList<A>,
 }
 
-// One alone takes no block.
+// One alone with a short value takes no block.
 #[derive(Drop)]
 pub(crate) enum UnknownList<A: Allocator> {
     Nothing,
-    One(Unknown<A>),
+    Short(ShortAttribute),
     Several(Vec<Unknown<A>, A>),
 }
 
@@ -41,42 +41,34 @@ impl<A: Allocator> Model for UnknownAttributes<A> {
 }
 
 impl<A: Allocator + Clone> UnknownAttributes<A> {
-    pub(crate) fn new(alloc: A) -> Self
-        ensures { result ≡ [] }
-    {
-        UnknownAttributes {
-            alloc,
-            attributes: UnknownList::Nothing,
-        }
-    }
-
     // Keeps the value of an attribute with this code.
-    pub(crate) fn keep(&mut self, code: u8, value: &[u8]) -> Result<(), AllocError>
+    pub(crate) fn keep(&mut self, alloc: &A, code: u8, value: &[u8]) -> Result<(), AllocError>
         requires passed_on { is_passed_on code value.now ≡ true }
         requires short { length value.now ≤ 65535 }
         ensures { OnOk result (self.new ≡ insert_entry nat_cmp self.old code value.now) }
     {
-        let attribute = Unknown::of(self.alloc.clone()?, code, value)?;
-        put_in_list(&self.alloc, &mut self.attributes, attribute)
+        put_in_list(alloc, &mut self.attributes, code, value)
     }
 }
 
-// Puts the attribute in its place, where one with its code may stand.
+// Puts an attribute in its place, where one with its code may stand.
 fn put_in_list<A: Allocator + Clone>(
     alloc: &A,
     list: &mut UnknownList<A>,
-    attribute: Unknown<A>,
+    code: u8,
+    value: &[u8],
 ) -> Result<(), AllocError>
-    ensures kept { OnOk result (list_kept list.new ≡ insert_entry nat_cmp (list_kept list.old) attribute.0 attribute.1) }
+    ensures kept { OnOk result (list_kept list.new ≡ insert_entry nat_cmp (list_kept list.old) code value.now) }
     ensures refused { OnErr result (list_kept list.new ≡ list_kept list.old) }
 {
+    if value.len() <= SHORT_VALUE && list.is_nothing() {
+        *list = UnknownList::Short(ShortAttribute::new(code, value));
+        return Ok(());
+    }
+    let attribute = Unknown::of(alloc.clone()?, code, value)?;
     match list {
-        UnknownList::Nothing => {
-            *list = UnknownList::One(attribute);
-            Ok(())
-        }
-        UnknownList::One(_) => put_beside(alloc, list, attribute),
         UnknownList::Several(attributes) => put(attributes, attribute),
+        _ => put_beside(alloc, list, attribute),
     }
 }
 
@@ -94,6 +86,17 @@ fn put_beside<A: Allocator + Clone>(
     kept
 }
 
+impl<A: Allocator> UnknownList<A> {
+    fn is_nothing(&self) -> bool
+        ensures { result ≡ true → list_kept self.now ≡ [] }
+    {
+        match self {
+            UnknownList::Nothing => true,
+            _ => false,
+        }
+    }
+}
+
 // Takes the attributes out of the list, with room for two.
 fn take_several<A: Allocator + Clone>(
     alloc: &A,
@@ -106,8 +109,8 @@ fn take_several<A: Allocator + Clone>(
     room.reserve_exact(2)?;
     match mem::replace(list, UnknownList::Nothing) {
         UnknownList::Nothing => Ok(room),
-        UnknownList::One(first) => {
-            room.push_reserved(first);
+        UnknownList::Short(first) => {
+            room.push_reserved(Unknown::short(first));
             Ok(room)
         }
         UnknownList::Several(several) => Ok(several),
@@ -176,13 +179,23 @@ fn has_code<A: Allocator>(attributes: &[Unknown<A>], place: usize, code: u8) -> 
 }
 
 impl<A: Allocator> UnknownAttributes<A> {
-    // The same, with what holds of all such values.
-    pub(crate) fn as_lawful(&self) -> &Self
-        ensures value { result.now ≡ self.now }
+    pub(crate) fn new() -> Self
+        ensures { result ≡ [] }
+    {
+        UnknownAttributes {
+            attributes: UnknownList::Nothing,
+        }
+    }
+
+    // The same where there are any, with what holds of all such values.
+    pub(crate) fn some(&self) -> Option<&Self>
+        ensures value { unknown_or_none (option_copied result) ≡ self.now }
         ensures lawful { ArePassedOn self.now }
     {
-        let _ = &self.attributes;
-        self
+        match &self.attributes {
+            UnknownList::Nothing => None,
+            _ => Some(self),
+        }
     }
 
     /// The codes with their values, in rising order of the codes.
@@ -194,7 +207,7 @@ impl<A: Allocator> UnknownAttributes<A> {
                 first: None,
                 rest: &[],
             },
-            UnknownList::One(attribute) => UnknownValues {
+            UnknownList::Short(attribute) => UnknownValues {
                 first: Some(attribute),
                 rest: &[],
             },
@@ -210,7 +223,7 @@ impl<A: Allocator> UnknownAttributes<A> {
 #[derive(Drop)]
 pub struct UnknownValues<'a, A: Allocator = Global> {
     // That which stands alone, or in front of the rest.
-    first: Option<&'a Unknown<A>>,
+    first: Option<&'a ShortAttribute>,
     rest: &'a [Unknown<A>],
 }
 

@@ -4,8 +4,53 @@ ghost use Rattle.std.specs.Prelude.{◌≡◌, ◌≤◌, length, IfOk};
 use std::alloc::{AllocError, Allocator};
 use std::marker::Model;
 
-// So many octets of a value stand in the attribute itself: most values have no more, and take no memory of their own.
-const SHORT_VALUE: usize = 28;
+/// So many octets of a value stand in the attribute itself: most values have no more, and take no memory of their own.
+pub(crate) const SHORT_VALUE: usize = 28;
+
+/// An attribute with a short value, which is the first of these octets, so many.
+#[derive(Drop)]
+pub(crate) struct ShortAttribute {
+    code: u8,
+    count: u8,
+    octets: [u8; SHORT_VALUE],
+}
+
+impl Model for ShortAttribute {
+    ghost use Rattle.std.specs.Prelude.{List, ℕ, ◌≡◌, ◌≤◌, length, take};
+
+    ghost Value = { ℕ × List ℕ };
+
+    ghost view = { λ a. (a.code, take a.count a.octets) };
+
+    ghost invariant = { λ a. (a.count ≤ 28) × (length a.octets ≡ 28) };
+}
+
+impl ShortAttribute {
+    pub(crate) fn new(code: u8, value: &[u8]) -> Self
+        requires { length value.now ≤ 28 }
+        ensures { result ≡ (code, value.now) }
+    {
+        let mut octets = [0; SHORT_VALUE];
+        octets[..value.len()].copy_from_slice(value);
+        ShortAttribute {
+            code,
+            count: value.len() as u8,
+            octets,
+        }
+    }
+
+    pub(crate) fn code(&self) -> u8
+        ensures { result ≡ self.now.0 }
+    {
+        self.code
+    }
+
+    pub(crate) fn value(&self) -> &[u8]
+        ensures { result.now ≡ self.now.1 }
+    {
+        &self.octets[..usize::from(self.count)]
+    }
+}
 
 /// An attribute: its code and its value.
 #[derive(Drop)]
@@ -15,27 +60,17 @@ pub(crate) struct Unknown<A: Allocator> {
 
 #[derive(Drop)]
 enum UnknownForm<A: Allocator> {
-    // The value is the first of these octets, so many.
-    Short {
-        code: u8,
-        length: u8,
-        octets: [u8; SHORT_VALUE],
-    },
-    Long {
-        code: u8,
-        value: Vec<u8, A>,
-    },
+    Short(ShortAttribute),
+    Long(u8, Vec<u8, A>),
 }
 
 impl<A: Allocator> Model for Unknown<A> {
     ghost use Rattle.std.specs.Prelude.{List, ℕ};
-    ghost use Rattle.bgp_attr.specs.UnknownForms.{HasRoom, unknown_kept};
+    ghost use Rattle.bgp_attr.specs.UnknownForms.{unknown_kept};
 
     ghost Value = { ℕ × List ℕ };
 
     ghost view = { λ a. unknown_kept a.form };
-
-    ghost invariant = { λ a. HasRoom a.form };
 }
 
 impl<A: Allocator> Unknown<A> {
@@ -43,27 +78,19 @@ impl<A: Allocator> Unknown<A> {
         ensures { IfOk result (λ attribute. attribute ≡ (code, value.now)) }
     {
         if value.len() <= SHORT_VALUE {
-            return Ok(Unknown::short(code, value));
+            return Ok(Unknown::short(ShortAttribute::new(code, value)));
         }
         let value = Vec::from_slice(alloc, value)?;
         Ok(Unknown {
-            form: UnknownForm::Long { code, value },
+            form: UnknownForm::Long(code, value),
         })
     }
 
-    fn short(code: u8, value: &[u8]) -> Self
-        requires { length value.now ≤ 28 }
-        ensures { result ≡ (code, value.now) }
+    pub(crate) fn short(attribute: ShortAttribute) -> Self
+        ensures { result ≡ attribute }
     {
-        let mut octets = [0; SHORT_VALUE];
-        octets[..value.len()].copy_from_slice(value);
-        let length = value.len() as u8;
         Unknown {
-            form: UnknownForm::Short {
-                code,
-                length,
-                octets,
-            },
+            form: UnknownForm::Short(attribute),
         }
     }
 
@@ -71,8 +98,8 @@ impl<A: Allocator> Unknown<A> {
         ensures { result ≡ self.now.0 }
     {
         match &self.form {
-            UnknownForm::Short { code, .. } => *code,
-            UnknownForm::Long { code, .. } => *code,
+            UnknownForm::Short(attribute) => attribute.code(),
+            UnknownForm::Long(code, _) => *code,
         }
     }
 
@@ -80,8 +107,8 @@ impl<A: Allocator> Unknown<A> {
         ensures { result.now ≡ self.now.1 }
     {
         match &self.form {
-            UnknownForm::Short { length, octets, .. } => &octets[..usize::from(*length)],
-            UnknownForm::Long { value, .. } => value.as_slice(),
+            UnknownForm::Short(attribute) => attribute.value(),
+            UnknownForm::Long(_, value) => value.as_slice(),
         }
     }
 }

@@ -213,7 +213,7 @@ fn append_part<A: Allocator>(
 {
     match &unknown.attributes {
         UnknownList::Nothing => true,
-        UnknownList::One(alone) => append_in_part(first, alone.code(), alone.value(), out),
+        UnknownList::Short(alone) => append_in_part(first, alone.code(), alone.value(), out),
         UnknownList::Several(several) => append_list(several.as_slice(), first, out),
     }
 }
