@@ -3,7 +3,6 @@ use Rattle.std.proofs.lemmas.Bool.Decides.{nat_tests}
 use Rattle.bgp_attr.specs.AttributeFaults.{is_host}
 use Rattle.bgp_conf.specs.Configuration.{Configuration, peer_at}
 use Rattle.bgp_conf.specs.FirstRefusal.{first_refusal, has_address, has_bit, is_in_range}
-use Rattle.bgp_conf.specs.declared.conf.TheConstants.{PEER_SLOTS}
 use Rattle.bgp_conf.specs.declared.command.PeerConf.{PeerConf}
 use Rattle.bgp_conf.specs.declared.command.Command.TheVariants.{AddPeer}
 use Rattle.bgp_conf.specs.declared.refusal.Refusal.{Refusal}
@@ -21,9 +20,9 @@ four_false false false false false r s t u rest h = (refl, refl, refl, refl)
 
 -- the first four tests of AddPeer failed
 tests_false : (conf : Configuration) (closing slot : ℕ) (peer : PeerConf) → first_refusal conf closing (AddPeer slot peer) ≡ None
-    → (nat_le PEER_SLOTS slot ≡ false) × ((is_some (peer_at conf slot) || has_bit closing slot) ≡ false) × (has_address conf.peers peer.address ≡ false) × (not (is_in_range peer) ≡ false)
+    → (nat_le 64 slot ≡ false) × ((is_some (peer_at conf slot) || has_bit closing slot) ≡ false) × (has_address conf.peers peer.address ≡ false) × (not (is_in_range peer) ≡ false)
 tests_false conf closing slot peer h =
-    four_false (nat_le PEER_SLOTS slot) (is_some (peer_at conf slot) || has_bit closing slot) (has_address conf.peers peer.address) (not (is_in_range peer)) BadSlot SlotTaken AddressTaken Range _ h
+    four_false (nat_le 64 slot) (is_some (peer_at conf slot) || has_bit closing slot) (has_address conf.peers peer.address) (not (is_in_range peer)) BadSlot SlotTaken AddressTaken Range _ h
 
 -- neither of two tests holds
 or_false : (a b : Bool) → (a || b) ≡ false → a ≡ false

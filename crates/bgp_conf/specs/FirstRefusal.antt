@@ -8,7 +8,6 @@ use Rattle.policy.specs.PolicyNames.{is_policy_name, name_of}
 use Rattle.policy.specs.PolicyRefusals.{drop_refusal, set_refusal}
 use Rattle.policy.specs.PolicyTable.{is_known}
 use Rattle.bgp_conf.specs.declared.conf.ConfiguredPeer.{ConfiguredPeer}
-use Rattle.bgp_conf.specs.declared.conf.TheConstants.{PEER_SLOTS, MAX_NETWORKS, MAX_REACH}
 use Rattle.bgp_conf.specs.declared.command.PeerConf.{PeerConf}
 use Rattle.bgp_conf.specs.declared.command.Command.{Command}
 use Rattle.bgp_conf.specs.declared.command.Command.TheVariants.{AddPeer, RemovePeer, Enable, Disable, SetPolicy, DropPolicy, UseIn, UseOut, Network, NoNetwork, Reach, NoReach, Filter, NoFilter, Assert, NoAssert}
@@ -17,7 +16,6 @@ use Rattle.bgp_conf.specs.declared.refusal.Refusal.TheVariants.{UnknownName, Unk
 use Rattle.bgp_conf.specs.RefusalNumbers.{refusal_of}
 use Rattle.bgp_conf.specs.ConfAfter.{asserted_of, is_asserted_by, is_filter_of}
 use Rattle.local_exceptions.specs.Filters.{filter_of}
-use Rattle.local_exceptions.specs.declared.exceptions.TheConstants.{MAX_ASSERTIONS, MAX_FILTERS}
 use Rattle.bgp_conf.specs.Configuration.{Configuration, peer_at, entry_at, is_network, uses_policy}
 
 -- the first test that holds gives the refusal
@@ -55,46 +53,46 @@ has_bit slots slot = (slots / 2 ^ slot) % 2 == 1
 abbrev pub first_refusal : Configuration → ℕ → Command → Option Refusal
 first_refusal configuration closing (AddPeer slot peer) =
     first
-    ((nat_le PEER_SLOTS slot, BadSlot)
+    ((nat_le 64 slot, BadSlot)
     ∷ (is_some (peer_at configuration slot) || has_bit closing slot, SlotTaken)
     ∷ (has_address configuration.peers peer.address, AddressTaken)
     ∷ (not (is_in_range peer), Range)
     ∷ (not (has_known_policies configuration peer), UnknownName)
     ∷ [])
 first_refusal configuration closing (RemovePeer slot) =
-    first ((nat_le PEER_SLOTS slot || is_none (peer_at configuration slot), BadSlot) ∷ [])
+    first ((nat_le 64 slot || is_none (peer_at configuration slot), BadSlot) ∷ [])
 first_refusal configuration closing (Enable slot) =
-    first ((nat_le PEER_SLOTS slot || is_none (peer_at configuration slot), BadSlot) ∷ [])
+    first ((nat_le 64 slot || is_none (peer_at configuration slot), BadSlot) ∷ [])
 first_refusal configuration closing (Disable slot) =
-    first ((nat_le PEER_SLOTS slot || is_none (peer_at configuration slot), BadSlot) ∷ [])
+    first ((nat_le 64 slot || is_none (peer_at configuration slot), BadSlot) ∷ [])
 first_refusal configuration closing (SetPolicy name rules) =
     option_map refusal_of (set_refusal configuration.policies name.now rules.now)
 first_refusal configuration closing (DropPolicy name) =
     option_map refusal_of (drop_refusal configuration.policies name.now (uses_policy configuration (name_of name.now)))
 first_refusal configuration closing (UseIn slot name) =
     first
-    ((nat_le PEER_SLOTS slot || is_none (peer_at configuration slot), BadSlot)
+    ((nat_le 64 slot || is_none (peer_at configuration slot), BadSlot)
     ∷ (not (is_policy_name name.now), Range)
     ∷ (not (is_known configuration.policies (name_of name.now)), UnknownName)
     ∷ [])
 first_refusal configuration closing (UseOut slot name) =
     first
-    ((nat_le PEER_SLOTS slot || is_none (peer_at configuration slot), BadSlot)
+    ((nat_le 64 slot || is_none (peer_at configuration slot), BadSlot)
     ∷ (not (is_policy_name name.now), Range)
     ∷ (not (is_known configuration.policies (name_of name.now)), UnknownName)
     ∷ [])
 first_refusal configuration closing (Network prefix) =
-    first ((not (is_network configuration prefix) && nat_le MAX_NETWORKS (length configuration.networks), TooMany) ∷ [])
+    first ((not (is_network configuration prefix) && nat_le 4096 (length configuration.networks), TooMany) ∷ [])
 first_refusal configuration closing (NoNetwork prefix) =
     first ((not (is_network configuration prefix), UnknownName) ∷ [])
 first_refusal configuration closing (Reach prefix cost) =
-    first ((is_none (entry_at configuration.reach prefix) && nat_le MAX_REACH (length configuration.reach), TooMany) ∷ [])
+    first ((is_none (entry_at configuration.reach prefix) && nat_le 4096 (length configuration.reach), TooMany) ∷ [])
 first_refusal configuration closing (NoReach prefix) =
     first ((is_none (entry_at configuration.reach prefix), UnknownName) ∷ [])
 first_refusal configuration closing (Filter prefix asn) =
     first
     ((is_none (filter_of prefix asn), Range)
-    ∷ (not (is_filter_of configuration.exceptions (filter_of prefix asn)) && nat_le MAX_FILTERS (length configuration.exceptions.filters), TooMany)
+    ∷ (not (is_filter_of configuration.exceptions (filter_of prefix asn)) && nat_le 4096 (length configuration.exceptions.filters), TooMany)
     ∷ [])
 first_refusal configuration closing (NoFilter prefix asn) =
     first
@@ -104,7 +102,7 @@ first_refusal configuration closing (NoFilter prefix asn) =
 first_refusal configuration closing (Assert prefix max_len asn) =
     first
     ((is_none (asserted_of prefix max_len asn), Range)
-    ∷ (not (is_asserted_by configuration.exceptions (asserted_of prefix max_len asn)) && nat_le MAX_ASSERTIONS (length configuration.exceptions.asserted), TooMany)
+    ∷ (not (is_asserted_by configuration.exceptions (asserted_of prefix max_len asn)) && nat_le 4096 (length configuration.exceptions.asserted), TooMany)
     ∷ [])
 first_refusal configuration closing (NoAssert prefix max_len asn) =
     first

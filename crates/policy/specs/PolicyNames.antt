@@ -2,7 +2,6 @@
 use Rattle.std.specs.Prelude.{ℕ, ◌==◌, ◌-◌, ◌&&◌, ◌||◌, ◌++◌, not, nat_le, Bool, List, length, replicate, codes, bytes_eq}
 use Rattle.std.specs.List.{list_all}
 use Rattle.policy.specs.declared.name.PolicyName.{PolicyName}
-use Rattle.policy.specs.declared.name.TheConstants.{MAX_NAME}
 
 -- an octet that names of policies may have: `a` to `z`, `0` to `9` and `-`
 abbrev pub is_name_octet : ℕ → Bool
@@ -10,11 +9,11 @@ is_name_octet octet = nat_le 97 octet && nat_le octet 122 || nat_le 48 octet && 
 
 -- a text that can name a policy: 1 to 32 such octets
 abbrev pub is_policy_name : List ℕ → Bool
-is_policy_name text = not (length text == 0) && nat_le (length text) MAX_NAME && list_all is_name_octet text
+is_policy_name text = not (length text == 0) && nat_le (length text) 32 && list_all is_name_octet text
 
 -- the name that a text is: its octets, and zeros behind them up to 32
 unfoldable pub name_of : List ℕ → PolicyName
-name_of text = record { octets = text ++ replicate (MAX_NAME - length text) 0 }
+name_of text = record { octets = text ++ replicate (32 - length text) 0 }
 
 -- both are one name
 abbrev pub is_same : PolicyName → PolicyName → Bool

@@ -32,7 +32,7 @@ impl PolicyName {
     // The name of these octets.
     #[tactic(auto, unfolding(crate::specs::PolicyNames::name_of))]
     fn of_octets(name: &[u8]) -> PolicyName
-        requires { length name.now ≤ MAX_NAME }
+        requires { length name.now ≤ 32 }
         ensures { result ≡ name_of name.now }
     {
         let mut octets = [0; MAX_NAME];

@@ -140,7 +140,7 @@ impl Condition {
     }
 
     fn is_in_range(&self) -> bool
-        ensures { result ≡ (holds self.now.prefix is_range && holds self.now.from (λ slot. nat_le slot LAST_SLOT)) }
+        ensures { result ≡ (holds self.now.prefix is_range && holds self.now.from (λ slot. nat_le slot 63)) }
     {
         let range = match &self.prefix {
             Some(range) => range.is_in_range(),
